@@ -1,0 +1,3 @@
+pub mod Exponents
+pub mod Terms
+pub mod Calls

@@ -1,0 +1,57 @@
+-- `kernel::copy` meets its contract: it copies the row one number at a time. The invariant: the first l numbers are copied. The measure is how many
+-- are left.
+-- Assumes nothing.
+use native.Mathlib.Omega.{arith}
+use Prim.Native.Nat.{_-_, _≤_}
+use mathlib.Core.Path.{_≡_, refl}
+use Rattle.algebra.specs.Lists.{Filled, filled-none, filled-more}
+use Rattle.steps.specs.Rows.{row}
+use Rattle.steps.proofs.kernel.copy.Statement.{statement}
+use Rattle.steps.proofs.kernel.copy.Tie as tie
+
+abbrev Inv-loop : tie.InvT-loop
+Inv-loop v b r₀ l₀ r l = (l ≤ 9) × Filled 9 (row v b) l r
+
+abbrev μ-loop : tie.MeasureT-loop
+μ-loop v b r₀ l₀ r l = 9 - l
+
+loop-holds : tie.Need-loop-holds Inv-loop μ-loop
+loop-holds c = (omega arith, filled-none _ _ _ refl)
+
+add-r : tie.Need-add-r Inv-loop μ-loop
+add-r c = omega arith
+
+element-copy-out-r : tie.Need-element-copy-out-r Inv-loop μ-loop
+element-copy-out-r c = omega arith
+
+array-write-r : tie.Need-array-write-r Inv-loop μ-loop
+array-write-r c = omega arith
+
+add-l : tie.Need-add-l Inv-loop μ-loop
+add-l c = omega arith
+
+loop-less : tie.Need-loop-less Inv-loop μ-loop
+loop-less c = omega arith
+
+loop-again : tie.Need-loop-again Inv-loop μ-loop
+loop-again c = (omega arith, filled-more _ _ _ _ _ (omega arith) refl (c .before .before .loop .inv .1))
+
+returns : tie.Need-returns Inv-loop μ-loop
+returns c =
+    let e : c .before .loop .l ≡ 9 = omega arith in
+    rw e at (c .before .loop .inv .1)
+
+pub copy-spec : {M : Type 1} → statement M
+copy-spec =
+    tie.close
+    (tie.spec
+    Inv-loop
+    μ-loop
+    loop-holds
+    add-r
+    element-copy-out-r
+    array-write-r
+    add-l
+    loop-less
+    loop-again
+    returns)

@@ -1,0 +1,56 @@
+-- `word::check::copy` meets its contract. The loop's invariant: the first i bytes of the target are those of the source.
+-- Assumes nothing.
+use mathlib.Core.Path.{refl}
+use Prim.Native.Nat.{_-_}
+use native.Mathlib.Omega.{arith}
+use borrow.Author.Needs.{needs}
+use lib.ListN.{length}
+use Rattle.algebra.specs.Tests.{at}
+use Rattle.algebra.specs.Lists.{Filled, filled-none, filled-more, filled-front}
+use Rattle.word.proofs.check.copy.Statement.{statement}
+use Rattle.word.proofs.check.copy.Tie as tie
+
+abbrev Inv-loop : tie.InvT-loop
+Inv-loop source target₀ i₀ target i = Filled (length target₀) (λ k. at source k) i target
+
+abbrev μ-loop : tie.MeasureT-loop
+μ-loop source target₀ i₀ target i = length target₀ - i
+
+loop-holds : tie.Need-loop-holds Inv-loop μ-loop
+loop-holds c = filled-none _ _ _ refl
+
+shared-slice-read-target : tie.Need-shared-slice-read-target Inv-loop μ-loop
+shared-slice-read-target c = omega (arith, c .before .before .loop .inv .size)
+
+slice-write-target : tie.Need-slice-write-target Inv-loop μ-loop
+slice-write-target c = omega arith
+
+add-i : tie.Need-add-i Inv-loop μ-loop
+add-i c = omega arith
+
+loop-less : tie.Need-loop-less Inv-loop μ-loop
+loop-less c = omega (arith, c .before .before .loop .inv .size)
+
+loop-again : tie.Need-loop-again Inv-loop μ-loop
+loop-again c = filled-more _ _ _ _ _ (omega (arith, c .before .before .loop .inv .size)) refl (c .before .before .loop .inv)
+
+same-length : tie.Need-same-length Inv-loop μ-loop
+same-length c = omega (arith, c .before .loop .inv .size)
+
+returns : tie.Need-returns Inv-loop μ-loop
+returns c = filled-front _ _ _ _ (omega (arith, c .before .loop .inv .size)) (c .before .before .pre) (c .before .loop .inv)
+
+pub copy-spec : {M : Type 1} → statement M
+copy-spec =
+    tie.close
+    (tie.spec
+    Inv-loop
+    μ-loop
+    loop-holds
+    shared-slice-read-target
+    slice-write-target
+    add-i
+    loop-less
+    loop-again
+    same-length
+    returns)

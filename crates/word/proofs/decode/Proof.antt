@@ -1,0 +1,83 @@
+-- `word::decode` meets its contract: a check's refusal leaves the word, and what the decoder found is copied over it.
+-- Assumes nothing.
+use mathlib.Core.Path.{_≡_, refl, sym, ap, _∙_, subst}
+use mathlib.Core.List.{List}
+use Prim.Native.Nat.{ℕ, _≤_, _<_}
+use native.Mathlib.Omega.{arith}
+use borrow.Author.Needs.{needs}
+use borrow.Author.Tests.{not-true, not-false}
+use lib.ListN.{length, take}
+use Rattle.word.specs.Setting.{limits, at-most}
+use Rattle.word.specs.Answers.Laws.{Refuses, Checked, refusal-most, checked, decode-refused, decode-found, decode-lost}
+use Rattle.word.specs.Settled.{Settles}
+use Rattle.word.proofs.decode.Statement.{statement}
+use Rattle.word.proofs.decode.Tie as tie
+
+refusal-requires : tie.Need-refusal-requires
+refusal-requires c κs = search needs
+
+refused-requires : tie.Need-refused-requires
+refused-requires c κs = search needs
+
+same-length : tie.Need-same-length
+same-length c = search needs
+
+returns : tie.Need-returns
+returns c =
+    let told = c .before .before .refusal .ensures in
+    decode-refused _ _ _ _ _ told (omega arith) (c .refused .ensures (omega arith) (rw told (refusal-most _ _ _)))
+
+slice-aggregate-settle : tie.Need-slice-aggregate-settle
+slice-aggregate-settle c = search needs
+
+settle-requires : tie.Need-settle-requires
+settle-requires c κs =
+    let r = c .before .before .before .refusal in
+    let none : r .result ≡ 0 = omega arith in (checked _ _ _ (sym (r .ensures) ∙ none), refl)
+
+same-length-2 : tie.Need-same-length-2
+same-length-2 c = search needs
+
+returns-2 : tie.Need-returns-2
+returns-2 c =
+    let r = c .before .before .before .before .before .before .before .refusal in
+    let none : r .result ≡ 0 = omega arith in
+    decode-lost _ _ _ (sym (r .ensures) ∙ none) (c .before .before .before .settle .ensures .1 .lost (not-true _ (c .if2 .taken)))
+
+slice-aggregate-copy : tie.Need-slice-aggregate-copy
+slice-aggregate-copy c = sym (c .before .before .before .before .settle .ensures .0)
+
+copy-requires : tie.Need-copy-requires
+copy-requires c κs =
+    let r = c .before .before .before .before .before .before .before .before .before .refusal in
+    let none : r .result ≡ 0 = omega arith in
+    let k : Checked _ _ _ = checked _ _ _ (sym (r .ensures) ∙ none) in
+    omega (arith, k .size, at-most _ (limits _ (k .setting)), c .before .before .before .before .before .settle .ensures .0)
+
+same-length-3 : tie.Need-same-length-3
+same-length-3 c = search needs
+
+returns-3 : tie.Need-returns-3
+returns-3 c =
+    let r = c .before .before .before .before .before .before .before .before .before .before .before .before .before .refusal in
+    let none : r .result ≡ 0 = omega arith in
+    let k : Checked _ _ _ = checked _ _ _ (sym (r .ensures) ∙ none) in
+    let f = c .before .before .before .before .before .before .before .before .before .settle .ensures .1 .found (not-false _ (c .before .before .before .before .before .before .if2 .left)) in
+    rw (c .before .before .before .copy .ensures, k .size) (decode-found _ _ _ (sym (r .ensures) ∙ none) _ _ (f .0) (f .1))
+
+pub decode-spec : {M : Type 1} → statement M
+decode-spec =
+    tie.close
+    (tie.spec
+    refusal-requires
+    refused-requires
+    same-length
+    returns
+    slice-aggregate-settle
+    settle-requires
+    same-length-2
+    returns-2
+    slice-aggregate-copy
+    copy-requires
+    same-length-3
+    returns-3)

@@ -1,0 +1,63 @@
+// What a call asks of the bytes it is given, and a copy of them.
+ghost use mathlib.Core.Path.{_≡_};
+ghost use mathlib.Core.List.{_++_};
+ghost use Prim.Native.Nat.{_+_, _<_, _≤_};
+ghost use lib.ListN.{length, take};
+ghost use Rattle.algebra.specs.Tests.{at, below};
+
+// A byte as a count.
+fn widen(x: u8) -> usize
+    ensures { λ r. ⌜ r ≡ x ⌝ }
+{
+    x as usize
+}
+
+// Whether every symbol is below q.
+pub fn all_below(s: &[u8], q: usize) -> bool
+    ensures { λ r. ⌜ r ≡ below q (now (s .entry)) ⌝ }
+{
+    let mut i = 0;
+    while i < s.len() {
+        if q <= widen(s[i]) {
+            return false;
+        }
+        i += 1;
+    }
+    true
+}
+
+// Fills the target with the front of the source.
+pub fn copy(source: &[u8], target: &mut [u8])
+    requires { ⌜ length (now target) ≤ length (now source) ⌝ }
+    ensures { λ _. ⌜ now (target .exit) ≡ take (length (now (target .entry))) (now (source .entry)) ⌝ }
+{
+    let mut i = 0;
+    while i < target.len() {
+        target[i] = source[i];
+        i += 1;
+    }
+}
+
+// Entry i of two lists that stand one behind the other.
+fn entry(first: &[u8], second: &[u8], i: usize) -> u8
+    requires { ⌜ i < length (now first) + length (now second) ⌝ }
+    ensures { λ r. ⌜ r ≡ at (now (first .entry) ++ now (second .entry)) i ⌝ }
+{
+    let k = first.len();
+    if i < k {
+        return first[i];
+    }
+    second[i - k]
+}
+
+// Fills the target with the front of two lists that stand one behind the other.
+pub fn join(first: &[u8], second: &[u8], target: &mut [u8])
+    requires { ⌜ length (now target) ≤ length (now first) + length (now second) ⌝ }
+    ensures { λ _. ⌜ now (target .exit) ≡ take (length (now (target .entry))) (now (first .entry) ++ now (second .entry)) ⌝ }
+{
+    let mut i = 0;
+    while i < target.len() {
+        target[i] = entry(first, second, i);
+        i += 1;
+    }
+}

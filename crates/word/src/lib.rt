@@ -1,0 +1,128 @@
+// The word code: document 01, section Word code. A word of n symbols is encoded from its k message symbols, and a received one is
+// corrected in place, or its message handed to a part of an area. Every call checks its own input, in the paper's order.
+ghost use mathlib.Core.Path.{_≡_};
+ghost use Prim.Native.Nat.{_<_, _≤_};
+ghost use Rattle.word.specs.Answers.{outcome, encodeOutcome, encodes, decoded, decodedPart};
+ghost use Rattle.word.specs.Answers.Laws.{Refuses};
+use check::all_below;
+use check::copy;
+use check::join;
+use limits::is_allowed;
+use limits::refusal;
+use limits::symbols_of;
+use settle::settle;
+use steps::register::check_symbols;
+
+mod check;
+mod count;
+mod limits;
+mod settle;
+
+// What a word code is set to: m bits a symbol, n symbols a word, r check symbols, and b, the power of a at which its zeros start.
+pub struct Setting {
+    pub m: usize,
+    pub n: usize,
+    pub r: usize,
+    pub b: usize,
+}
+
+// What an accepted word was found to have: unmarked wrong symbols, marked ones, and changed bits.
+pub struct Figures {
+    pub errors: u16,
+    pub marked: u16,
+    pub bits: u16,
+}
+
+// What decoding answers.
+pub enum Decoded {
+    Done(Figures),
+    BadSetting,
+    BadLength,
+    BadSymbol,
+    BeyondReach,
+}
+
+// What encoding answers.
+pub enum Encoded {
+    Done,
+    BadSetting,
+    BadLength,
+    BadSymbol,
+}
+
+// Puts the message of k symbols and the check symbols that make it a codeword into the word of n.
+pub fn encode(s: Setting, message: &[u8], word: &mut [u8]) -> Encoded
+    ensures { λ d. ⌜ encodeOutcome d (now (word .exit)) ≡ encodes s (now (message .entry)) (now (word .entry)) ⌝ }
+{
+    if !is_allowed(s) {
+        return Encoded::BadSetting;
+    }
+    if message.len() != s.n - s.r {
+        return Encoded::BadLength;
+    }
+    if word.len() != s.n {
+        return Encoded::BadLength;
+    }
+    if !all_below(message, symbols_of(s.m)) {
+        return Encoded::BadSymbol;
+    }
+    let checks = check_symbols(s.m, s.b, s.r, message);
+    join(message, &checks, word);
+    Encoded::Done
+}
+
+// The answer of a check that failed.
+fn refused(number: u8) -> Decoded
+    ensures { λ d. ⌜ ((0 < number) → (number ≤ 3) → Refuses number d) ⌝ }
+{
+    if number == 1 {
+        return Decoded::BadSetting;
+    }
+    if number == 2 {
+        return Decoded::BadLength;
+    }
+    Decoded::BadSymbol
+}
+
+// Corrects a received word where it stands; its marks are only read. A refused word is left as it was.
+pub fn decode(s: Setting, word: &mut [u8], marks: &[u8]) -> Decoded
+    ensures { λ d. ⌜ outcome d (now (word .exit)) ≡ decoded s (now (marks .entry)) (now (word .entry)) ⌝ }
+{
+    let number = refusal(s, word, marks);
+    if number != 0 {
+        return refused(number);
+    }
+    let mut work: [u8; 255] = [0; 255];
+    let answer = settle(s, word, marks, &mut work);
+    if !answer.found {
+        return Decoded::BeyondReach;
+    }
+    copy(&work, word);
+    let figures = answer.figures;
+    Decoded::Done(figures)
+}
+
+// The same with the received word only read: the k message symbols of the corrected word go to the lent part. A refused word leaves
+// the part as it was.
+pub fn decode_part(s: Setting, received: &[u8], marks: &[u8], part: &mut [u8]) -> Decoded
+    ensures { λ d. ⌜ outcome d (now (part .exit)) ≡ decodedPart s (now (marks .entry)) (now (received .entry)) (now (part .entry)) ⌝ }
+{
+    if !is_allowed(s) {
+        return Decoded::BadSetting;
+    }
+    if part.len() != s.n - s.r {
+        return Decoded::BadLength;
+    }
+    let number = refusal(s, received, marks);
+    if number != 0 {
+        return refused(number);
+    }
+    let mut work: [u8; 255] = [0; 255];
+    let answer = settle(s, received, marks, &mut work);
+    if !answer.found {
+        return Decoded::BeyondReach;
+    }
+    copy(&work, part);
+    let figures = answer.figures;
+    Decoded::Done(figures)
+}
