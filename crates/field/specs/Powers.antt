@@ -136,11 +136,6 @@ module _ {m p : ℕ} {ps es : List ℕ} (t : Rules m p ps es) where
   pub power-once : (i j : ℕ) → i < order → j < order → power m p i ≡ power m p j → i ≡ j
   power-once i j hi hj e = sym (log-power i hi) ∙ ap log e ∙ log-power j hj
 
-  -- the product of two elements, neither of which is 0, by the tables
-  pub product-log : (x y : ℕ) → 0 < x → x < 2 ^ m → 0 < y → y < 2 ^ m → product m p x y ≡ power m p (log x + log y)
-  product-log x y hx lx hy ly =
-      ap₂ (product m p) (sym (power-log x hx lx)) (sym (power-log y hy ly)) ∙ power-mul (log x) (log y)
-
   pub inverse-log : (x : ℕ) → 0 < x → x < 2 ^ m → product m p x (power m p (order - log x)) ≡ 1
   inverse-log x h l =
       ap (λ (z : ℕ). product m p z (power m p (order - log x))) (sym (power-log x h l)) ∙ power-mul (log x) (order - log x)

@@ -70,10 +70,6 @@ pub errors-to : (marks received word : List ℕ) (i : ℕ) → i ≡ length rece
 unfolding errors
 errors-to marks received word i e = rw e
 
-pub marked-to : (marks received : List ℕ) (i : ℕ) → i ≡ length received → total i (at marks) ≡ marked marks received
-unfolding marked
-marked-to marks received i e = rw e
-
 pub bits-to : (received word : List ℕ) (i : ℕ) → i ≡ length received → total i (bitsAt received word) ≡ bits received word
 unfolding bits
 bits-to received word i e = rw e

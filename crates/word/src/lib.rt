@@ -33,7 +33,7 @@ pub struct Figures {
     pub bits: u16,
 }
 
-// What decoding answers.
+// What decoding answers. Its numbers are the paper's 0 to 4, in this order.
 pub enum Decoded {
     Done(Figures),
     BadSetting,
@@ -42,7 +42,7 @@ pub enum Decoded {
     BeyondReach,
 }
 
-// What encoding answers.
+// What encoding answers. Its numbers are the paper's 0 to 3, in this order.
 pub enum Encoded {
     Done,
     BadSetting,
@@ -50,7 +50,8 @@ pub enum Encoded {
     BadSymbol,
 }
 
-// Puts the message of k symbols and the check symbols that make it a codeword into the word of n.
+// Puts the k message symbols and the check symbols that make them a codeword into the word of n symbols.
+// Refused 1 for the setting, 2 for a length, 3 for a message symbol of 2^m or more; the word is then left as it was.
 pub fn encode(s: Setting, message: &[u8], word: &mut [u8]) -> Encoded
     ensures { λ d. ⌜ encodeOutcome d (now (word .exit)) ≡ encodes s (now (message .entry)) (now (word .entry)) ⌝ }
 {
@@ -84,7 +85,9 @@ fn refused(number: u8) -> Decoded
     Decoded::BadSymbol
 }
 
-// Corrects a received word where it stands; its marks are only read. A refused word is left as it was.
+// Corrects a received word where it stands to the codeword with 2e + f ≤ r; its marks are only read.
+// Refused 1 for the setting, 2 for a length, 3 for a symbol of 2^m or more or a mark above 1, and 4 where no codeword qualifies; the
+// word is then left as it was.
 pub fn decode(s: Setting, word: &mut [u8], marks: &[u8]) -> Decoded
     ensures { λ d. ⌜ outcome d (now (word .exit)) ≡ decoded s (now (marks .entry)) (now (word .entry)) ⌝ }
 {
@@ -102,8 +105,8 @@ pub fn decode(s: Setting, word: &mut [u8], marks: &[u8]) -> Decoded
     Decoded::Done(figures)
 }
 
-// The same with the received word only read: the k message symbols of the corrected word go to the lent part. A refused word leaves
-// the part as it was.
+// The same with the received word only read: the k message symbols of the corrected word go to the lent part. Refused as `decode`
+// is, and 2 for a part that has not k symbols; the part is then left as it was.
 pub fn decode_part(s: Setting, received: &[u8], marks: &[u8], part: &mut [u8]) -> Decoded
     ensures { λ d. ⌜ outcome d (now (part .exit)) ≡ decodedPart s (now (marks .entry)) (now (received .entry)) (now (part .entry)) ⌝ }
 {
