@@ -1,0 +1,88 @@
+// The block interleaver: words go in by columns and slots are sent by rows, so that a run of damage falls on many words.
+ghost use mathlib.Core.Path.{_≡_};
+ghost use Prim.Native.Nat.{_*_, _<_};
+ghost use lib.ListN.{length};
+ghost use Rattle.interleave.specs.Refusal.{Says};
+ghost use Rattle.interleave.specs.Block.{BlockSetting, blockRefusal, transposed, Spread, Gather};
+
+// `depth` words of n bytes, end to end, go to their slots: byte i of word w to slot i * depth + w.
+// Answers 0; or 1 for depth or n outside the limits, 2 for a buffer that is not of depth * n bytes, and the slots stay as they were.
+pub fn spread(depth: usize, n: usize, words: &[u8], slots: &mut [u8]) -> u8
+    ensures { λ r. ⌜ Spread depth n (now (words .entry)) (now (slots .entry)) r (now (slots .exit)) ⌝ }
+{
+    let r = block_refusal(depth, n, words.len(), slots.len());
+    if r != 0 {
+        return r;
+    }
+    transpose(depth, n, words, slots);
+    0
+}
+
+// The way back: the byte in slot i * depth + w is byte i of word w. Answers as `spread` does.
+pub fn gather(depth: usize, n: usize, slots: &[u8], words: &mut [u8]) -> u8
+    ensures { λ r. ⌜ Gather depth n (now (slots .entry)) (now (words .entry)) r (now (words .exit)) ⌝ }
+{
+    let r = block_refusal(depth, n, slots.len(), words.len());
+    if r != 0 {
+        return r;
+    }
+    transpose(n, depth, slots, words);
+    0
+}
+
+// The depth and n are within their limits.
+fn block_fits(depth: usize, n: usize) -> bool
+    ensures { λ r. ⌜ Says r (BlockSetting depth n) ⌝ }
+{
+    if depth < 1 {
+        return false;
+    }
+    if depth > 16 {
+        return false;
+    }
+    if n < 3 {
+        return false;
+    }
+    if n > 255 {
+        return false;
+    }
+    true
+}
+
+// The number by which a block is refused, or 0. The limits come first: within them the product fits.
+fn block_refusal(depth: usize, n: usize, source: usize, target: usize) -> u8
+    ensures { λ r. ⌜ r ≡ blockRefusal depth n source target ⌝ }
+{
+    if !block_fits(depth, n) {
+        return 1;
+    }
+    if source != depth * n {
+        return 2;
+    }
+    if target != depth * n {
+        return 2;
+    }
+    0
+}
+
+// m rows of n bytes become n rows of m. Counters take the place of a division for each byte.
+fn transpose(m: usize, n: usize, source: &[u8], target: &mut [u8])
+    requires { ⌜ (0 < m) × (length (now source) ≡ m * n) × (length (now target) ≡ n * m) ⌝ }
+    ensures { λ _. ⌜ now (target .exit) ≡ transposed m n (now (source .entry)) ⌝ }
+{
+    let mut row = 0;
+    let mut column = 0;
+    let mut from = 0;
+    let mut s = 0;
+    while s < target.len() {
+        target[s] = source[from];
+        s += 1;
+        column += 1;
+        from += n;
+        if column == m {
+            column = 0;
+            row += 1;
+            from = row;
+        }
+    }
+}
