@@ -8,7 +8,7 @@ ghost use Rattle.word.specs.Answers.Laws.{Checked};
 ghost use Rattle.word.specs.Settled.{Repaired, Settles};
 use crate::Figures;
 use crate::Setting;
-use crate::check::copy;
+use crate::buffer::copy;
 use crate::count::count_bits;
 use crate::count::count_errors;
 use crate::count::count_marks;

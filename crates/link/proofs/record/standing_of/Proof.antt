@@ -1,0 +1,19 @@
+-- `record::standing_of` meets its contract: the two ways out are the two cases of `standing`.
+-- Assumes nothing.
+use mathlib.Core.Path.{_∙_}
+use borrow.Author.Needs.{needs}
+use Rattle.link.specs.Record.Laws.{standing-again, standing-first}
+use Rattle.link.proofs.record.standing_of.Statement.{statement}
+use Rattle.link.proofs.record.standing_of.Tie as tie
+
+kind-of-requires : tie.Need-kind-of-requires
+kind-of-requires c κs = search needs
+
+returns : tie.Need-returns
+returns c = c .kind-of .ensures ∙ standing-again _ _ (c .before .if1 .taken)
+
+returns-2 : tie.Need-returns-2
+returns-2 c = standing-first _ _ (c .if1 .left)
+
+pub standing-of-spec : {M : Type 1} → statement M
+standing-of-spec = tie.close (tie.spec kind-of-requires returns returns-2)

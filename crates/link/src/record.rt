@@ -1,0 +1,130 @@
+// The receiver's record: document 01, section Receiver's record. It holds the newest sequence number, and how many frames were
+// newer, repeated, older and refused. What each call promises is defined in specs/Record.antt.
+ghost use mathlib.Core.Path.{_≡_};
+ghost use Rattle.link.specs.Record.{ahead, oneMore, kind, freshRecord, countedAs, lostAfter, standing, noted};
+
+// A caller makes it by `fresh` and hands it to every call that receives. The C face lends it, so its fields keep their order.
+#[repr(C)]
+pub struct Record {
+    pub accepted: bool,
+    pub last: u16,
+    pub newer: u32,
+    pub repeat: u32,
+    pub older: u32,
+    pub refused: u32,
+}
+
+// How a sequence number stands to the last newest one.
+pub enum Kind {
+    Newer,
+    Repeat,
+    Older,
+}
+
+// A record that has accepted nothing; its numbers are 0.
+pub fn fresh() -> Record
+    ensures { λ r. ⌜ r ≡ freshRecord ⌝ }
+{
+    Record {
+        accepted: false,
+        last: 0,
+        newer: 0,
+        repeat: 0,
+        older: 0,
+        refused: 0,
+    }
+}
+
+// The new number minus the last, wrapped at 65536. A plain comparison would take 2 for older than 65535.
+fn ahead_of(new: u16, last: u16) -> u16
+    ensures { λ r. ⌜ r ≡ ahead new last ⌝ }
+{
+    std::num::wrapping_sub_u16(new, last)
+}
+
+// Newer is ahead of the last number by 1 to 32767, repeat is the last number again, and older is the rest.
+fn kind_of(new: u16, last: u16) -> Kind
+    ensures { λ r. ⌜ r ≡ kind new last ⌝ }
+{
+    let d = ahead_of(new, last);
+    if d == 0 {
+        return Kind::Repeat;
+    }
+    if d < 32768 {
+        return Kind::Newer;
+    }
+    Kind::Older
+}
+
+// How an accepted frame with this number stands to what the record has accepted. The first is newer, whatever the last number says.
+pub fn standing_of(before: Record, sequence: u16) -> Kind
+    ensures { λ r. ⌜ r ≡ standing before sequence ⌝ }
+{
+    if before.accepted {
+        return kind_of(sequence, before.last);
+    }
+    Kind::Newer
+}
+
+// One more; a count at the top stays there, since a count that wraps would tell of a receiver that heard nothing.
+fn one_more(count: u32) -> u32
+    ensures { λ r. ⌜ r ≡ oneMore count ⌝ }
+{
+    if count < 4294967295 { count + 1 } else { count }
+}
+
+// The record after an accepted frame of this kind: only a newer one moves the last number.
+fn counted(before: Record, sequence: u16, kind: Kind) -> Record
+    ensures { λ r. ⌜ r ≡ countedAs before sequence kind ⌝ }
+{
+    let mut next = before;
+    next.accepted = true;
+    match kind {
+        Kind::Newer => {
+            next.last = sequence;
+            next.newer = one_more(before.newer);
+            return next;
+        }
+        Kind::Repeat => {
+            next.repeat = one_more(before.repeat);
+            return next;
+        }
+        Kind::Older => {
+            next.older = one_more(before.older);
+            return next;
+        }
+    }
+}
+
+// The record after a frame that was refused 4 or 5.
+fn lost(before: Record) -> Record
+    ensures { λ r. ⌜ r ≡ lostAfter before ⌝ }
+{
+    let mut next = before;
+    next.refused = one_more(before.refused);
+    next
+}
+
+// The record after a frame that was answered `number`; its sequence number counts only where that is 0.
+// 4 and 5 add to the refused ones, and every other refusal leaves the record as it was.
+pub fn note(before: Record, number: u8, sequence: u16) -> Record
+    ensures { λ r. ⌜ r ≡ noted before number sequence ⌝ }
+{
+    if number == 4 {
+        return lost(before);
+    }
+    if number == 5 {
+        return lost(before);
+    }
+    if number != 0 {
+        return before;
+    }
+    counted(before, sequence, standing_of(before, sequence))
+}
+
+// The same over a lent record, which is updated where it stands.
+pub fn note_in(lent: &mut Record, number: u8, sequence: u16)
+    ensures { λ _. ⌜ now (lent .exit) ≡ noted (now (lent .entry)) number sequence ⌝ }
+{
+    *lent = note(*lent, number, sequence);
+}
