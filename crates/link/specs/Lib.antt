@@ -1,1 +1,7 @@
+pub mod Lists
+pub mod Slots
+pub mod Tie
+pub mod Frame
+pub mod FrameExample
 pub mod Record
+pub mod Receiver

@@ -1,0 +1,203 @@
+// Receiving a frame.
+ghost use mathlib.Core.Path.{_≡_};
+ghost use mathlib.Core.List.{map};
+ghost use Prim.Native.Nat.{_≤_};
+ghost use lib.ListN.{length};
+ghost use Rattle.word.specs.Answers.{noFigures};
+ghost use Rattle.link.specs.Frame.{answered, refusedWith, settled, decodedFrame, received, handedBack};
+ghost use Rattle.link.specs.Frame.Decoding.{notFound, foundOf, Decodes, WordGiven, FrameChecked, FrameGiven, Collected};
+use crate::frame::Framing;
+use crate::frame::Received;
+use crate::frame::Verdict;
+use crate::frame::is_allowed;
+use crate::frame::words_of;
+use crate::slots::marks_fit;
+use crate::slots::take_word;
+use crate::slots::work_space;
+use crate::trailer::clear;
+use crate::trailer::is_good;
+use crate::trailer::payload;
+use crate::trailer::two_at;
+use word::Decoded;
+use word::Figures;
+
+// What one word was found to have; no figures where it is refused.
+pub struct Found {
+    pub accepted: bool,
+    pub figures: Figures,
+}
+
+// What the words were found to have: how many from the first on were accepted, and the figures of these.
+pub struct Words {
+    pub accepted: usize,
+    pub figures: [Figures; 16],
+}
+
+// The figures of a word that has none.
+fn no_figures() -> Figures
+    ensures { λ r. ⌜ r ≡ noFigures ⌝ }
+{
+    Figures {
+        errors: 0,
+        marked: 0,
+        bits: 0,
+    }
+}
+
+// A refused word.
+fn not_found() -> Found
+    ensures { λ r. ⌜ r ≡ notFound ⌝ }
+{
+    let figures = no_figures();
+    Found {
+        accepted: false,
+        figures,
+    }
+}
+
+// A word's answer without its reason: a frame tells only which word failed.
+fn without_reason(d: Decoded) -> Found
+    ensures { λ r. ⌜ r ≡ foundOf d ⌝ }
+{
+    match d {
+        Decoded::Done(figures) => Found {
+            accepted: true,
+            figures,
+        },
+        Decoded::BadSetting => not_found(),
+        Decoded::BadLength => not_found(),
+        Decoded::BadSymbol => not_found(),
+        Decoded::BeyondReach => not_found(),
+    }
+}
+
+// Decodes word w into its part of the area. The two buffers are work space for the word and its marks.
+fn receive_word(
+    f: Framing,
+    w: usize,
+    slots: &[u8],
+    marks: &[u8],
+    word: &mut [u8],
+    marked: &mut [u8],
+    part: &mut [u8],
+) -> Found
+    requires { ⌜ WordGiven f w (now slots) (now marks) (length (now word)) (length (now marked)) (length (now part)) ⌝ }
+    ensures { λ r. ⌜ Decodes f (now (marks .entry)) (now (slots .entry)) w r (now (part .exit)) ⌝ }
+{
+    take_word(f.depth, w, slots, word);
+    take_word(f.depth, w, marks, marked);
+    let d = word::decode_part(words_of(f), word, marked, part);
+    without_reason(d)
+}
+
+// Decodes each word into its part of the area, up to the first that is refused.
+fn receive_words(
+    f: Framing,
+    slots: &[u8],
+    marks: &[u8],
+    word: &mut [u8],
+    marked: &mut [u8],
+    area: &mut [u8],
+) -> Words
+    requires { ⌜ FrameGiven f (now slots) (now marks) (length (now word)) (length (now marked)) (length (now area)) ⌝ }
+    ensures { λ r. ⌜ Collected f (now (marks .entry)) (now (slots .entry)) r (now (area .exit)) ⌝ }
+{
+    let k = f.n - f.r;
+    let mut figures = [no_figures(); 16];
+    for w in 0..f.depth {
+        let a = w * k;
+        let found = receive_word(f, w, slots, marks, word, marked, &mut area[a..a + k]);
+        if !found.accepted {
+            return Words {
+                accepted: w,
+                figures,
+            };
+        }
+        let own = found.figures;
+        figures[w] = own;
+    }
+    Words {
+        accepted: f.depth,
+        figures,
+    }
+}
+
+// The answer of a refused frame.
+fn refused(verdict: Verdict) -> Received
+    ensures { λ r. ⌜ r ≡ refusedWith verdict ⌝ }
+{
+    let figures = [no_figures(); 16];
+    Received {
+        verdict,
+        sequence: 0,
+        back: 0,
+        figures,
+    }
+}
+
+// The answer of a frame whose words are all accepted: what its trailer says.
+fn settle(area: &mut [u8], figures: [Figures; 16]) -> Received
+    requires { ⌜ 4 ≤ length (now area) ⌝ }
+    ensures { λ r. ⌜ answered r (now (area .exit)) ≡ settled (length (now (area .entry))) figures (now (area .entry)) ⌝ }
+{
+    if !is_good(area) {
+        clear(area);
+        return refused(Verdict::BadTrailer);
+    }
+    let end = area.len() - 4;
+    Received {
+        verdict: Verdict::Done,
+        sequence: two_at(area, end + 2),
+        back: two_at(area, end),
+        figures,
+    }
+}
+
+// Decodes a frame that has passed the checks.
+fn receive_checked(f: Framing, slots: &[u8], marks: &[u8], area: &mut [u8]) -> Received
+    requires { ⌜ FrameChecked f (now slots) (now marks) (length (now area)) ⌝ }
+    ensures { λ r. ⌜ answered r (now (area .exit)) ≡ decodedFrame f (now (marks .entry)) (now (slots .entry)) ⌝ }
+{
+    let mut word = work_space();
+    let mut marked = work_space();
+    let words = receive_words(f, slots, marks, &mut word[..f.n], &mut marked[..f.n], area);
+    if words.accepted < f.depth {
+        clear(area);
+        return refused(Verdict::BeyondReach(words.accepted as u8));
+    }
+    let figures = words.figures;
+    settle(area, figures)
+}
+
+// Decodes a received frame into the lent area of A bytes; its slots and marks are only read. A frame that is beyond reach or has a bad
+// trailer leaves zeros in the area, and any other refusal leaves it as it was.
+pub fn receive(f: Framing, slots: &[u8], marks: &[u8], area: &mut [u8]) -> Received
+    ensures { λ r. ⌜ answered r (now (area .exit)) ≡ received f (now (marks .entry)) (now (slots .entry)) (now (area .entry)) ⌝ }
+{
+    if !is_allowed(f) {
+        return refused(Verdict::BadSetting);
+    }
+    if slots.len() != f.n * f.depth {
+        return refused(Verdict::BadLength);
+    }
+    if marks.len() != f.n * f.depth {
+        return refused(Verdict::BadLength);
+    }
+    if area.len() != f.depth * (f.n - f.r) {
+        return refused(Verdict::BadLength);
+    }
+    if !marks_fit(marks) {
+        return refused(Verdict::BadMark);
+    }
+    receive_checked(f, slots, marks, area)
+}
+
+// The same, and hands back the whole area and the payload as that part of it.
+pub fn receive_part<'a>(f: Framing, slots: &[u8], marks: &[u8], area: &'a mut [u8]) -> [&'a [u8]; 2]
+    ensures { λ p. ⌜ map now p ≡ handedBack (received f (now (marks .entry)) (now (slots .entry)) (now (area .entry))) ⌝ }
+{
+    let r = receive(f, slots, marks, &mut area[..]);
+    let t = &area[..];
+    let p = payload(t, r);
+    [t, p]
+}
