@@ -3,5 +3,4 @@ pub mod Slots
 pub mod Tie
 pub mod Frame
 pub mod FrameExample
-pub mod Record
 pub mod Receiver

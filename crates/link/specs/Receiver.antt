@@ -3,10 +3,10 @@
 use mathlib.Core.List.{List}
 use Prim.Native.Nat.{ℕ}
 use Rattle.link.specs.Frame.{ReceiveOutcome, receiveOutcome, payloadOf, received}
-use Rattle.link.specs.Record.{noted}
+use Rattle.record.specs.Record.{noted}
 use Rattle.link.specs.declared.frame.Framing.{Framing}
 use Rattle.link.specs.declared.frame.Received.{Received}
-use Rattle.link.specs.declared.record.Record.{Record}
+use Rattle.record.specs.declared.Record.{Record}
 pub mod Laws
 
 -- what hearing a frame answers and leaves: the frame's answer with the area, and the record after it

@@ -4,7 +4,6 @@
 mod frame;
 mod receiver;
 mod receiving;
-mod record;
 mod sending;
 mod slots;
 mod trailer;

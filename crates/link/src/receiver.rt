@@ -7,8 +7,8 @@ use crate::frame::Framing;
 use crate::frame::Received;
 use crate::frame::Verdict;
 use crate::receiving::receive;
-use crate::record::Record;
-use crate::record::note;
+use record::Record;
+use record::note;
 
 // What hearing a frame gives: the record after it, and the frame's answer.
 pub struct Heard {

@@ -5,12 +5,12 @@ use mathlib.Core.List.{List}
 use Prim.Native.Nat.{ℕ}
 use Rattle.link.specs.Frame.{receiveOutcome, payloadOf, received, numberOf}
 use Rattle.link.specs.Frame.Receiving.{receive-once}
-use Rattle.link.specs.Record.{noted}
+use Rattle.record.specs.Record.{noted}
 use Rattle.link.specs.Receiver.{HearOutcome, hearOutcome, heard}
 use Rattle.link.specs.declared.frame.Framing.{Framing}
 use Rattle.link.specs.declared.frame.Received.{Received}
 use Rattle.link.specs.declared.frame.Verdict.{Verdict}
-use Rattle.link.specs.declared.record.Record.{Record}
+use Rattle.record.specs.declared.Record.{Record}
 
 module _ (h : Record) (f : Framing) (marks slots area : List ℕ) where
   -- an answer that receiving promises, and the record with its number and sequence number noted

@@ -41,14 +41,14 @@ use denote.Triple.Table.{entered, cited}
 use denote.Triple.Walked.{says, Stays, stay-ref, stay-none, stay-none-slice, gave-slice, walkOf, AllGo, goes-ref, goes-none, goes-none-slice, goes-gave-slice, Walks, ends-at, walked, walk-meets}
 use denote.Triple.Clauses.{ensured, lasts}
 use denote.Exit.{yes}
-use Rattle.link.specs.declared.record.Record.{Record}
+use Rattle.record.specs.declared.Record.{Record}
 use Rattle.link.specs.declared.receiver.Heard.{Heard}
 use Rattle.link.specs.declared.frame.Framing.{Framing}
 use Rattle.link.specs.Receiver.{hearOutcome, heard as heardOf}
 use Rattle.link.proofs.frame.Framing as framing-type
 use Rattle.link.proofs.frame.Framing.Laws as framing-laws
-use Rattle.link.proofs.record.Record as T
-use Rattle.link.proofs.record.Record.Laws as T′
+use Rattle.record.proofs.Record as T
+use Rattle.record.proofs.Record.Laws as T′
 use Rattle.link.proofs.receiver.Heard as K
 use Rattle.link.proofs.receiver.Heard.Laws as K′
 use Rattle.link.proofs.frame.Received as N

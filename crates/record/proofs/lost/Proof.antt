@@ -1,8 +1,8 @@
--- `record::lost` meets its contract: the refused count becomes one more, and nothing else is written.
+-- `lost` meets its contract: the refused count becomes one more, and nothing else is written.
 -- Assumes nothing.
 use borrow.Author.Needs.{needs}
-use Rattle.link.proofs.record.lost.Statement.{statement}
-use Rattle.link.proofs.record.lost.Tie as tie
+use Rattle.record.proofs.lost.Statement.{statement}
+use Rattle.record.proofs.lost.Tie as tie
 
 one-more-requires : tie.Need-one-more-requires
 one-more-requires c κs = search needs

@@ -3,10 +3,10 @@
 use mathlib.Core.Path.{_≡_}
 use mathlib.Core.Bool.{true}
 use Prim.Native.Nat.{ℕ}
-use Rattle.link.specs.Record.{kind, countedAs, standing, noted}
-use Rattle.link.specs.declared.record.Record.{Record}
-use Rattle.link.specs.declared.record.Kind.{Kind}
-use Rattle.link.specs.declared.record.Kind.the-variants.{Newer, Older}
+use Rattle.record.specs.Record.{kind, countedAs, standing, noted}
+use Rattle.record.specs.declared.Record.{Record}
+use Rattle.record.specs.declared.Kind.{Kind}
+use Rattle.record.specs.declared.Kind.the-variants.{Newer, Older}
 
 -- a record that has accepted a frame and whose last number is `last` notes an accepted frame `new` as this kind
 abbrev pub Notes : ℕ → ℕ → Kind → Type 0

@@ -4,9 +4,9 @@ use mathlib.Core.Bool.{true, false, _||_}
 use Prim.Native.Nat.{ℕ, _+_, _-_, _%_, min}
 use lib.Dec.{ltb, eqb}
 use Rattle.algebra.specs.Tests.{if_then_else_}
-use Rattle.link.specs.declared.record.Record.{Record}
-use Rattle.link.specs.declared.record.Kind.{Kind}
-use Rattle.link.specs.declared.record.Kind.the-variants.{Newer, Repeat, Older}
+use Rattle.record.specs.declared.Record.{Record}
+use Rattle.record.specs.declared.Kind.{Kind}
+use Rattle.record.specs.declared.Kind.the-variants.{Newer, Repeat, Older}
 pub mod Laws
 pub mod Kinds
 pub mod History

@@ -1,9 +1,9 @@
--- `record::kind_of` meets its contract: each way out is one case of `kind`, by the wrapped difference that `ahead_of` gives.
+-- `kind_of` meets its contract: each way out is one case of `kind`, by the wrapped difference that `ahead_of` gives.
 -- Assumes nothing.
 use borrow.Author.Needs.{needs}
-use Rattle.link.specs.Record.Laws.{kind-repeat, kind-newer, kind-older}
-use Rattle.link.proofs.record.kind_of.Statement.{statement}
-use Rattle.link.proofs.record.kind_of.Tie as tie
+use Rattle.record.specs.Record.Laws.{kind-repeat, kind-newer, kind-older}
+use Rattle.record.proofs.kind_of.Statement.{statement}
+use Rattle.record.proofs.kind_of.Tie as tie
 
 ahead-of-requires : tie.Need-ahead-of-requires
 ahead-of-requires c κs = search needs

@@ -10,12 +10,12 @@ use native.Mathlib.Omega.{arith}
 use lib.Dec.{eqb, ltb}
 use borrow.Author.Tests.{eq-eqb, ne-eqb, lt-ltb}
 use Rattle.algebra.specs.Tests.{if_then_else_, oneIf}
-use Rattle.link.specs.Record.{countedAs, lostAfter, standing, noted}
-use Rattle.link.specs.Record.Laws.{standing-again, standing-first, noted-accepted}
-use Rattle.link.specs.Record.Kinds.{order, by-order, kind-true}
-use Rattle.link.specs.declared.record.Record.{Record}
-use Rattle.link.specs.declared.record.Kind.{Kind}
-use Rattle.link.specs.declared.record.Kind.the-variants.{Newer, Repeat, Older}
+use Rattle.record.specs.Record.{countedAs, lostAfter, standing, noted}
+use Rattle.record.specs.Record.Laws.{standing-again, standing-first, noted-accepted}
+use Rattle.record.specs.Record.Kinds.{order, by-order, kind-true}
+use Rattle.record.specs.declared.Record.{Record}
+use Rattle.record.specs.declared.Kind.{Kind}
+use Rattle.record.specs.declared.Kind.the-variants.{Newer, Repeat, Older}
 
 -- what a frame was answered, and its sequence number
 pub record Heard : Type 0 where

@@ -1,7 +1,7 @@
 // The receiver's record: document 01, section Receiver's record. It holds the newest sequence number, and how many frames were
 // newer, repeated, older and refused. What each call promises is defined in specs/Record.antt.
 ghost use mathlib.Core.Path.{_≡_};
-ghost use Rattle.link.specs.Record.{ahead, oneMore, kind, freshRecord, countedAs, lostAfter, standing, noted};
+ghost use Rattle.record.specs.Record.{ahead, oneMore, kind, freshRecord, countedAs, lostAfter, standing, noted};
 
 // A caller makes it by `fresh` and hands it to every call that receives. The C face lends it, so its fields keep their order.
 #[repr(C)]

@@ -1,10 +1,10 @@
--- `record::standing_of` meets its contract: the two ways out are the two cases of `standing`.
+-- `standing_of` meets its contract: the two ways out are the two cases of `standing`.
 -- Assumes nothing.
 use mathlib.Core.Path.{_∙_}
 use borrow.Author.Needs.{needs}
-use Rattle.link.specs.Record.Laws.{standing-again, standing-first}
-use Rattle.link.proofs.record.standing_of.Statement.{statement}
-use Rattle.link.proofs.record.standing_of.Tie as tie
+use Rattle.record.specs.Record.Laws.{standing-again, standing-first}
+use Rattle.record.proofs.standing_of.Statement.{statement}
+use Rattle.record.proofs.standing_of.Tie as tie
 
 kind-of-requires : tie.Need-kind-of-requires
 kind-of-requires c κs = search needs

@@ -1,8 +1,8 @@
--- `record::counted` meets its contract: in each arm the count of that kind becomes one more, and the last number moves only where it is newer.
+-- `counted` meets its contract: in each arm the count of that kind becomes one more, and the last number moves only where it is newer.
 -- Assumes nothing.
 use borrow.Author.Needs.{needs}
-use Rattle.link.proofs.record.counted.Statement.{statement}
-use Rattle.link.proofs.record.counted.Tie as tie
+use Rattle.record.proofs.counted.Statement.{statement}
+use Rattle.record.proofs.counted.Tie as tie
 
 enum-told : tie.Need-enum-told
 enum-told c = search needs

@@ -1,11 +1,11 @@
--- `record::note` meets its contract: each way out is one case of `noted`.
+-- `note` meets its contract: each way out is one case of `noted`.
 -- Assumes nothing.
 use mathlib.Core.Path.{ap, _∙_}
 use borrow.Author.Needs.{needs}
-use Rattle.link.specs.Record.{countedAs}
-use Rattle.link.specs.Record.Laws.{noted-beyond, noted-trailer, noted-other, noted-accepted}
-use Rattle.link.proofs.record.note.Statement.{statement}
-use Rattle.link.proofs.record.note.Tie as tie
+use Rattle.record.specs.Record.{countedAs}
+use Rattle.record.specs.Record.Laws.{noted-beyond, noted-trailer, noted-other, noted-accepted}
+use Rattle.record.proofs.note.Statement.{statement}
+use Rattle.record.proofs.note.Tie as tie
 
 lost-requires : tie.Need-lost-requires
 lost-requires c κs = search needs

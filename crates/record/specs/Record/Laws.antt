@@ -5,10 +5,10 @@ use mathlib.Core.Bool.{true, false}
 use mathlib.Core.Logic.{_≢_}
 use Prim.Native.Nat.{ℕ, _≤_, _<_}
 use borrow.Author.Tests.{eq-eqb, ne-eqb, lt-ltb, le-ltb}
-use Rattle.link.specs.Record.{ahead, kind, freshRecord, countedAs, lostAfter, standing, noted}
-use Rattle.link.specs.declared.record.Record.{Record}
-use Rattle.link.specs.declared.record.Kind.{Kind}
-use Rattle.link.specs.declared.record.Kind.the-variants.{Newer, Repeat, Older}
+use Rattle.record.specs.Record.{ahead, kind, freshRecord, countedAs, lostAfter, standing, noted}
+use Rattle.record.specs.declared.Record.{Record}
+use Rattle.record.specs.declared.Kind.{Kind}
+use Rattle.record.specs.declared.Kind.the-variants.{Newer, Repeat, Older}
 
 module _ (new last d : ℕ) (e : d ≡ ahead new last) where
   pub kind-repeat : d ≡ 0 → Repeat ≡ kind new last

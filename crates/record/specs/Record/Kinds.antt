@@ -9,11 +9,11 @@ use native.Mathlib.Omega.{arith}
 use lib.Dec.{eqb, ltb}
 use borrow.Author.Tests.{eq-eqb, ne-eqb, lt-ltb, le-ltb}
 use Rattle.algebra.specs.Tests.{if_then_else_}
-use Rattle.link.specs.Record.{ahead, kind, countedAs, noted}
-use Rattle.link.specs.Record.Laws.{kind-repeat, kind-newer, kind-older, standing-again, noted-accepted}
-use Rattle.link.specs.declared.record.Record.{Record}
-use Rattle.link.specs.declared.record.Kind.{Kind}
-use Rattle.link.specs.declared.record.Kind.the-variants.{Newer, Repeat, Older}
+use Rattle.record.specs.Record.{ahead, kind, countedAs, noted}
+use Rattle.record.specs.Record.Laws.{kind-repeat, kind-newer, kind-older, standing-again, noted-accepted}
+use Rattle.record.specs.declared.Record.{Record}
+use Rattle.record.specs.declared.Kind.{Kind}
+use Rattle.record.specs.declared.Kind.the-variants.{Newer, Repeat, Older}
 
 -- b follows a by 1 to `most` numbers, going round at 65536
 pub record Follows (a b most : ℕ) : Type 0 where
