@@ -67,7 +67,7 @@ module _ (m mark y : ℕ) where
 -- the flag of place i, from the polynomial's values at all locators
 pub flag-at : (m n : ℕ) (marks v : List ℕ) (d : ℕ) (locators ys : List ℕ) (i flag : ℕ) → i < n → Locators m n locators
     → Filled 255 (λ k. ev (K m) d (λ l. at v l) (at locators k)) n ys → flag ≡ flagOf m (at marks i) (at ys i) → flag ≡ flagOf m (at marks i) (valueAt m n v d i)
-flag-at m n marks v d locators ys i flag h t p e = rw (← t i h, ← p .first i h) e
+flag-at m n marks v d locators ys i flag h t p e = rw (← t .entry i h, ← p .first i h) e
 
 -- a list that is filled with the flags of all n places
 pub flags-all : (m n : ℕ) (marks v : List ℕ) (d s : ℕ) (flags : List ℕ)

@@ -42,5 +42,5 @@ abbrev pub spare : (flags : List ℕ) (skip n k : ℕ) → Dec ((0 < at flags (n
 spare flags skip n k = Dec·and (decLt 0 (at flags (n - suc k))) (Dec·not (ℕ-discrete (n - suc k) skip))
 
 -- the table holds the locators of the places of a word of n
-abbrev pub Locators : ℕ → ℕ → List ℕ → Type 0
-Locators m n table = (i : ℕ) → i < n → at table i ≡ locator m (n - suc i)
+pub record Locators (m n : ℕ) (table : List ℕ) : Type 0 where
+  pub entry : (i : ℕ) → i < n → at table i ≡ locator m (n - suc i)

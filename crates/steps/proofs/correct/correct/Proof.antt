@@ -52,7 +52,7 @@ loop-again : tie.Need-loop-again Inv-loop μ-loop
 loop-again c =
     let o = c .before .before .before .loop in
     let a = c .before .before .before .before .before .before in
-    ⊎-elim (λ w. rw (w .7, w .8) (correcting-take (omega arith) (o .inv) (omega arith) (a .pre .1 _ (omega arith)) (w .2 .ensures) (w .4 .ensures) (w .5 .ensures) (w .6 .ensures)))
+    ⊎-elim (λ w. rw (w .7, w .8) (correcting-take (omega arith) (o .inv) (omega arith) (a .pre .1 .entry _ (omega arith)) (w .2 .ensures) (w .4 .ensures) (w .5 .ensures) (w .6 .ensures)))
     (λ w. rw (w .1, w .2) (correcting-pass (omega arith) (o .inv) (omega arith))) (c .if1 .came)
 
 same-length : tie.Need-same-length Inv-loop μ-loop

@@ -31,7 +31,7 @@ times-requires c κs = search needs
 returns : tie.Need-returns
 returns c =
     let a = c .before .before .before .before .before .before .before in
-    error-at (getD (a .args .locators .now) (a .args .p) 0) _ _ _ _ (c .before .before .before .weight .ensures) (a .pre .1 _ (omega arith)) (c .before .before .distance .ensures)
+    error-at (getD (a .args .locators .now) (a .args .p) 0) _ _ _ _ (c .before .before .before .weight .ensures) (a .pre .1 .entry _ (omega arith)) (c .before .before .distance .ensures)
     (λ few. c .before .before .before .before .before .peel-all .ensures 0 (omega arith)) (c .before .inverse-at .ensures .1) (c .times .ensures)
 
 pub error-value-spec : {M : Type 1} → statement M

@@ -1,7 +1,7 @@
 -- `steps::locate::candidates` meets its contract. The loop's invariant: the places before `i` have their flags.
 -- Assumes nothing.
 use mathlib.Core.Path.{refl}
-use Prim.Native.Nat.{_-_, _≤_}
+use Prim.Native.Nat.{_-_, _<_, _≤_}
 use native.Mathlib.Omega.{arith}
 use borrow.Author.Needs.{needs}
 use Rattle.algebra.specs.Tests.{at}
@@ -44,10 +44,13 @@ loop-again : tie.Need-loop-again Inv-loop μ-loop
 loop-again c =
     let o = c .before .before .before .loop in
     let s = c .before .before .before .before .before .before in
-    let values = c .before .before .before .before .values .ensures in (
+    let values = c .before .before .before .before .values in
+    let a = s .args in
+    let u : o .i < a .n = omega arith in
+    let flag =
+    flag-at (a .m) (a .n) (a .marks .now) (a .v .now) (a .d) (a .locators .now) (values .result) (o .i) (c .candidate .result) u (s .pre .3) (values .ensures) (c .candidate .ensures) in (
       omega arith,
-      filled-more _ _ _ _ _ (omega arith)
-          (flag-at _ _ (s .args .marks .now) (s .args .v .now) _ (s .args .locators .now) _ (o .i) _ (omega arith) (s .pre .3) values (c .candidate .ensures)) (o .inv .1),
+      filled-more 255 (λ k. flagOf (a .m) (at (a .marks .now) k) (valueAt (a .m) (a .n) (a .v .now) (a .d) k)) (o .i) (o .flags) (c .candidate .result) (omega arith) flag (o .inv .1),
     )
 
 returns : tie.Need-returns Inv-loop μ-loop

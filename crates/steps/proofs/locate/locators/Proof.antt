@@ -1,7 +1,7 @@
 -- `steps::locate::locators` meets its contract. The loop's invariant: the places from `i` on have their locators, and `x` is that of the place before them.
 -- Assumes nothing.
 use mathlib.Core.Path.{_≡_, refl, _∙_}
-use Prim.Native.Nat.{_-_, _≤_}
+use Prim.Native.Nat.{_-_, _<_, _≤_}
 use native.Mathlib.Omega.{arith}
 use borrow.Author.Needs.{needs}
 use Rattle.steps.specs.Places.{locator}
@@ -32,14 +32,16 @@ loop-less c = omega arith
 
 loop-again : tie.Need-loop-again Inv-loop μ-loop
 loop-again c =
-    let o = c .before .before .loop in (
+    let o = c .before .before .loop in
+    let a = c .before .before .before .args in
+    let (u, v) : (0 < o .i) × (a .n ≤ 255) = (omega arith, omega arith) in (
       omega arith,
-      c .double .ensures ∙ locator-next _ _ (o .i) _ (omega arith) (omega arith) (o .inv .1),
-      backed-more _ _ _ _ _ (omega arith) (omega arith) (omega arith) (o .inv .1) (o .inv .2),
+      c .double .ensures ∙ locator-next (a .m) (a .n) (o .i) (o .x) u (o .inv .0) (o .inv .1),
+      backed-more (a .m) (a .n) (o .i) (o .table) (o .x) u (o .inv .0) v (o .inv .1) (o .inv .2),
     )
 
 returns : tie.Need-returns Inv-loop μ-loop
-returns c = λ k l. c .before .loop .inv .2 .last k (omega arith) l
+returns c = record { entry = λ k l. c .before .loop .inv .2 .last k (omega arith) l }
 
 pub locators-spec : {M : Type 1} → statement M
 locators-spec =

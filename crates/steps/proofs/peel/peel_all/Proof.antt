@@ -39,7 +39,7 @@ loop-again : tie.Need-loop-again Inv-loop μ-loop
 loop-again c =
     let o = c .before .before .before .loop in
     let a = c .before .before .before .before .before in
-    ⊎-elim (λ w. rw (w .4) (peeling-take (omega arith) (o .inv) (omega arith) (eqb-false _ _ (not-true _ (w .1 .taken))) (a .pre .1 _ (omega arith)) (w .3 .ensures)))
+    ⊎-elim (λ w. rw (w .4) (peeling-take (omega arith) (o .inv) (omega arith) (eqb-false _ _ (not-true _ (w .1 .taken))) (a .pre .1 .entry _ (omega arith)) (w .3 .ensures)))
     (λ w. rw (w .1) (peeling-pass (omega arith) (o .inv) λ h. ⊎-elim (λ u. h .1 (eqb-true _ _ (not-false _ (u .1 .left)))) (λ u. omega arith) (w .0 .came)))
     (c .if1 .came)
 

@@ -34,7 +34,10 @@ loop-less : tie.Need-loop-less Inv-loop μ-loop
 loop-less c = omega arith
 
 loop-again : tie.Need-loop-again Inv-loop μ-loop
-loop-again c = dividing-more _ _ _ _ _ _ (c .before .before .before .loop .inv) (omega arith) (c .feed .ensures)
+loop-again c =
+    let o = c .before .before .before .loop in
+    let a = c .before .before .before .before .before .before .args in
+    dividing-more (a .m) (c .before .before .before .before .generator .result) (a .message .now) (o .i) (o .register) (c .feed .result) (o .inv) (omega arith) (c .feed .ensures)
 
 returns : tie.Need-returns Inv-loop μ-loop
 returns c = dividing-all _ _ _ _ _ _ _ (c .before .before .before .before .pre) (c .before .before .generator .ensures) (omega arith) (c .before .loop .inv)

@@ -37,8 +37,12 @@ loop-less c = omega arith
 
 loop-again : tie.Need-loop-again Inv-loop μ-loop
 loop-again c =
-    let o = c .before .before .before .loop .inv in
-    (omega arith, divisor-more _ _ _ _ _ _ (omega arith) (o .1) (o .2) (c .before .grown .ensures), c .double .ensures ∙ root-next _ _ _ _ (o .2))
+    let o = c .before .before .before .loop in
+    let a = c .before .before .before .before .before .args in (
+      omega arith,
+      divisor-more (a .m) (a .b) (o .j) (o .root) (o .polynomial) (c .before .grown .result) (omega arith) (o .inv .1) (o .inv .2) (c .before .grown .ensures),
+      c .double .ensures ∙ root-next (a .m) (a .b) (o .j) (o .root) (o .inv .2),
+    )
 
 returns : tie.Need-returns Inv-loop μ-loop
 returns c =
