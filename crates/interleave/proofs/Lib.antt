@@ -1,4 +1,2 @@
--- Laws that more than one proof of this crate leans on, or that would hide the line of argument where they are used.
-mod Bounds
+-- What would hide the line of argument where it is used.
 mod Walk
-mod Passing

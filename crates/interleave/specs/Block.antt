@@ -10,7 +10,7 @@ use native.Mathlib.Omega.{arith}
 use lib.ListN.{length, getD}
 use lib.Seq.{ext-getD}
 use Rattle.algebra.specs.Lists.{tabulate, length-tabulate, getD-tabulate}
-use Rattle.interleave.specs.Refusal.{need, need-yes, need-zero, ifZero}
+use Rattle.rings.specs.Refusal.{need, need-yes, need-zero, ifZero}
 
 -- m rows of n bytes as n rows of m: place i * m + w has byte i of row w
 unfoldable pub transposed : ℕ → ℕ → List ℕ → List ℕ

@@ -1,13 +1,4 @@
-pub mod Refusal
 pub mod Block
-pub mod Rings
-pub mod Delay
-pub mod Line
-pub mod Marks
-pub mod Setting
-pub mod Steps
-pub mod Promises
-pub mod Calls
 pub mod Runs
 pub mod Damage
 pub mod Worked

@@ -6,16 +6,16 @@ use Prim.Native.Nat.{ℕ}
 use lib.Dec.{lit≤}
 use lib.ListN.{length, getD, replicate}
 use Rattle.algebra.specs.Lists.{tabulate}
-use Rattle.interleave.specs.Rings.{ring, tri}
+use Rattle.rings.specs.Rings.{ring, tri}
 use Rattle.interleave.specs.Block.{transposed, spread, Spread, block-done}
-use Rattle.interleave.specs.Delay.{answer, memory, position, lineOut, lineKept}
-use Rattle.interleave.specs.Line.{common, period, sent, received}
-use Rattle.interleave.specs.Marks.{marks-same}
-use Rattle.interleave.specs.Setting.{Setting, memorySize, lineAt}
-use Rattle.interleave.specs.Steps.{blank}
-use Rattle.interleave.specs.Promises.{SendRun, ReceiveRun}
-use Rattle.interleave.specs.Calls.{sends-run, receives-run}
-use Rattle.interleave.specs.declared.line.Ready.{Ready}
+use Rattle.rings.specs.Delay.{answer, memory, position, lineOut, lineKept}
+use Rattle.line.specs.Line.{common, period, sent, received}
+use Rattle.rings.specs.Marks.{marks-same}
+use Rattle.line.specs.Setting.{Setting, memorySize, lineAt}
+use Rattle.line.specs.Steps.{blank}
+use Rattle.line.specs.Promises.{SendRun, ReceiveRun}
+use Rattle.line.specs.Calls.{sends-run, receives-run}
+use Rattle.line.specs.declared.setting.Ready.{Ready}
 
 -- P11: depth 2, words 1,3,2 and 2,6,4
 pub P11 : spread 2 3 (1 ∷ 3 ∷ 2 ∷ 2 ∷ 6 ∷ 4 ∷ []) ≡ 1 ∷ 2 ∷ 3 ∷ 6 ∷ 2 ∷ 4 ∷ []

@@ -2,7 +2,7 @@
 ghost use mathlib.Core.Path.{_≡_};
 ghost use Prim.Native.Nat.{_*_, _<_};
 ghost use lib.ListN.{length};
-ghost use Rattle.interleave.specs.Refusal.{Says};
+ghost use Rattle.rings.specs.Refusal.{Says};
 ghost use Rattle.interleave.specs.Block.{BlockSetting, blockRefusal, transposed, Spread, Gather};
 
 // `depth` words of n bytes, end to end, go to their slots: byte i of word w to slot i * depth + w.

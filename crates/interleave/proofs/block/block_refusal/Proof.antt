@@ -4,7 +4,7 @@ use mathlib.Core.Path.{refl}
 use native.Mathlib.Omega.{arith}
 use borrow.Author.Needs.{needs}
 use native.Mathlib.Nat.{mul-le-mul-right}
-use Rattle.interleave.specs.Refusal.{need-yes, need-no, said-yes, said-no}
+use Rattle.rings.specs.Refusal.{need-yes, need-no, said-yes, said-no}
 use Rattle.interleave.specs.Block.{BlockSetting, blockRefusal}
 use Rattle.interleave.proofs.block.block_refusal.Statement.{statement}
 use Rattle.interleave.proofs.block.block_refusal.Tie as tie

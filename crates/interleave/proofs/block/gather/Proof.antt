@@ -5,7 +5,7 @@ use Prim.Native.Nat.{_<_}
 use native.Mathlib.Omega.{arith}
 use borrow.Author.Needs.{needs}
 use native.Mathlib.Nat.{mul-comm}
-use Rattle.interleave.specs.Refusal.{kept}
+use Rattle.rings.specs.Refusal.{kept}
 use Rattle.interleave.specs.Block.{block-fine}
 use Rattle.interleave.proofs.block.gather.Statement.{statement}
 use Rattle.interleave.proofs.block.gather.Tie as tie

@@ -3,7 +3,7 @@
 use mathlib.Core.Path.{sym, _∙_}
 use borrow.Author.Needs.{needs}
 use native.Mathlib.Nat.{mul-comm}
-use Rattle.interleave.specs.Refusal.{kept}
+use Rattle.rings.specs.Refusal.{kept}
 use Rattle.interleave.specs.Block.{block-fine}
 use Rattle.interleave.proofs.block.spread.Statement.{statement}
 use Rattle.interleave.proofs.block.spread.Tie as tie

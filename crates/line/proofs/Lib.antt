@@ -1,0 +1,3 @@
+-- Laws that more than one proof of this crate leans on.
+mod Bounds
+mod Passing

@@ -1,0 +1,5 @@
+pub mod Line
+pub mod Setting
+pub mod Steps
+pub mod Promises
+pub mod Calls

@@ -1,0 +1,4 @@
+pub mod Refusal
+pub mod Rings
+pub mod Delay
+pub mod Marks

@@ -1,0 +1,49 @@
+// Rings of bytes end to end in one lent memory, the shortest first: what every delay is made of, also the cross line's.
+ghost use mathlib.Core.Path.{_≡_};
+ghost use lib.ListN.{length, replicate};
+ghost use Rattle.rings.specs.Refusal.{Says};
+ghost use Rattle.rings.specs.Rings.{RingFits, RingTurned};
+ghost use Rattle.rings.specs.Marks.{Marks};
+
+// One turn of the ring of k units: what it holds at turn q comes out, and the byte goes in. Where k is 0 the byte itself comes out.
+pub fn turn(memory: &mut [u8], unit: usize, k: usize, q: usize, byte: u8) -> u8
+    requires { ⌜ RingFits unit k q (length (now memory)) ⌝ }
+    ensures { λ r. ⌜ RingTurned unit k q (now (memory .entry)) byte r (now (memory .exit)) ⌝ }
+{
+    if k == 0 {
+        return byte;
+    }
+    let at = k * (k - 1) / 2 * unit + q % (k * unit);
+    let out = memory[at];
+    memory[at] = byte;
+    out
+}
+
+// Every byte of the buffer becomes the value.
+pub fn fill(buffer: &mut [u8], value: u8)
+    ensures { λ _. ⌜ now (buffer .exit) ≡ replicate (length (now (buffer .entry))) value ⌝ }
+{
+    let mut i = 0;
+    while i < buffer.len() {
+        buffer[i] = value;
+        i += 1;
+    }
+}
+
+// No mark is above 1. The largest mark is taken, with no early way out, so that the loop can run on many bytes at once.
+pub fn marks_fit(marks: &[u8]) -> bool
+    ensures { λ r. ⌜ Says r (Marks (now (marks .entry))) ⌝ }
+{
+    let mut most: u8 = 0;
+    let mut i = 0;
+    while i < marks.len() {
+        if marks[i] > most {
+            most = marks[i];
+        }
+        i += 1;
+    }
+    if most > 1 {
+        return false;
+    }
+    true
+}
