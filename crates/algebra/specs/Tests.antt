@@ -94,21 +94,19 @@ unfolding each
 each-all zero t h = tt
 each-all (suc n) t h = both (each n t) (t n) (each-all n t λ i l. h i (omega arith)) (h n (omega arith))
 
--- ---- the only number that passes
+-- ---- the first number that passes, known by those before it
 
-none-below : (n : ℕ) (t : ℕ → Bool) → ((i : ℕ) → i < n → t i ≡ false) → firstBelow n t ≡ n
+pub first-none : (n : ℕ) (t : ℕ → Bool) → ((i : ℕ) → i < n → t i ≡ false) → firstBelow n t ≡ n
 unfolding firstBelow
-none-below zero t h = refl
-none-below (suc n) t h = rw (none-below n t λ i l. h i (omega arith), le-ltb n n (omega arith), h n (omega arith))
+first-none zero t h = refl
+first-none (suc n) t h = rw (first-none n t λ i l. h i (omega arith), le-ltb n n (omega arith), h n (omega arith))
 
-pub first-only : (n : ℕ) (t : ℕ → Bool) (x : ℕ) → x < n → t x ≡ true → ((i : ℕ) → i < n → i ≢ x → t i ≡ false) → firstBelow n t ≡ x
+pub first-is : (n : ℕ) (t : ℕ → Bool) (x : ℕ) → x < n → ((i : ℕ) → i < x → t i ≡ false) → t x ≡ true → firstBelow n t ≡ x
 unfolding firstBelow
-first-only zero t x l p h = absurd (not-suc-le-zero l)
-first-only (suc n) t x l p h = elim (ℕ-discrete x n) [
-  | yes e ↦ rw (none-below n t λ i k. h i (omega arith) (omega arith), le-ltb n n (omega arith), ← e, p)
-  | no ne ↦
-      let f : firstBelow n t ≡ x = first-only n t x (omega arith) p (λ i k. h i (omega arith)) in
-      rw (f, lt-ltb x n (omega arith))
+first-is zero t x l h p = absurd (not-suc-le-zero l)
+first-is (suc n) t x l h p = elim (ℕ-discrete x n) [
+  | yes e ↦ rw (first-none n t λ i k. h i (omega arith), le-ltb n n (omega arith), ← e, p)
+  | no ne ↦ rw (first-is n t x (omega arith) h p, lt-ltb x n (omega arith))
 ]
 
 -- ---- a bound on every number

@@ -8,7 +8,7 @@ use native.Mathlib.Omega.{arith}
 use borrow.Author.Tests.{eqb-true, eq-eqb, ne-eqb, lt-ltb}
 use lib.Dec.{eqb}
 use Rattle.algebra.specs.Xor.{_⊕_}
-use Rattle.algebra.specs.Tests.{first-only}
+use Rattle.algebra.specs.Tests.{first-is}
 use Rattle.field.specs.Field.{mul}
 use Rattle.field.specs.Elements.{wide, wide-3, wide-8, Known, known, inverse, inverse-below, inverse-one, undo}
 use Rattle.field.specs.Answers.{isField, isElement, productOf, powerOf, inverseOf}
@@ -51,7 +51,7 @@ module _ (m x : ℕ) (field : isField m ≡ true) (some : 0 < x) (small : x < 2 
   unfolding inverseOf isElement
   inverse-is y l p =
       simp (field, lt-ltb x (2 ^ m) small, ne-eqb x 0 (omega arith))
-      (ap Is (first-only (2 ^ m) (λ z. eqb (mul m x z) 1) y l (eq-eqb (mul m x y) 1 p) (λ z k ne. ne-eqb (mul m x z) 1 (λ q. ne (one-inverse z y k l q p)))))
+      (ap Is (first-is (2 ^ m) (λ z. eqb (mul m x z) 1) y l (λ z k. ne-eqb (mul m x z) 1 λ q. let e : z ≡ y = one-inverse z y (omega arith) l q p in omega arith) (eq-eqb (mul m x y) 1 p)))
 
 -- the answer r is a number below 2^m whose product with x is 1, and no other number is that
 pub record Inverse (m x : ℕ) (r : Element) : Type 0 where

@@ -14,8 +14,9 @@ use Rattle.word.specs.Code.{encoded, corrected}
 use Rattle.word.specs.Answers.{noFigures, figures}
 use Rattle.word.specs.declared.Setting.{Setting}
 use Rattle.word.specs.declared.Figures.{Figures}
+use Rattle.interleave.specs.Block.{spread}
 use Rattle.link.specs.Lists.{joined, part}
-use Rattle.link.specs.Slots.{interleaved, wordIn}
+use Rattle.link.specs.Slots.{wordIn}
 use Rattle.link.specs.declared.frame.Framing.{Framing}
 use Rattle.link.specs.declared.frame.Sent.{Sent}
 use Rattle.link.specs.declared.frame.Sent.the-variants as S
@@ -85,7 +86,7 @@ unfoldable pub wordSent : Framing → List ℕ → ℕ → ℕ → List ℕ
 wordSent f payload sequence w = encoded (wordSetting f) (part (messageSize (wordSetting f)) w (areaSent (areaSize f) payload sequence))
 
 unfoldable pub slotsSent : Framing → List ℕ → ℕ → List ℕ
-slotsSent f payload sequence = interleaved (f .depth) (f .n) (joined (f .depth) (wordSent f payload sequence))
+slotsSent f payload sequence = spread (f .depth) (f .n) (joined (f .depth) (wordSent f payload sequence))
 
 -- what sending answers and leaves
 pub record SendOutcome : Type 0 where

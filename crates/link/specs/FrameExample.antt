@@ -20,8 +20,9 @@ use Rattle.word.specs.Code.Laws.{corrected-only, encoded-only}
 use Rattle.word.specs.Answers.{noFigures}
 use Rattle.word.specs.declared.Setting.{Setting}
 use Rattle.word.specs.declared.Figures.{Figures}
+use Rattle.interleave.specs.Block.{transposed}
 use Rattle.link.specs.Lists.{joined}
-use Rattle.link.specs.Slots.{interleaved, wordIn}
+use Rattle.link.specs.Slots.{wordIn}
 use Rattle.link.specs.Frame.{allowedFrame, areaSent, wordSent, slotsSent, sent, correctedWord, messageOf, figuresAt, beyond, areaReceived, figuresReceived, zerosBefore, trailerGood, payloadIn, settled, decodedFrame, received}
 use Rattle.link.specs.declared.frame.Framing.{Framing}
 
@@ -47,7 +48,7 @@ unfolding below isCodeword each valueFrom _⊕_ times reduce product power
 encoded-1 = encoded-only five allowed-five (0 ∷ 2 ∷ 1 ∷ []) refl (13 ∷ 14 ∷ []) tt
 
 pub sent-example : sent example (65 ∷ []) 258 (replicate 10 0) ≡ record { number = 0; slots = 0 ∷ 0 ∷ 65 ∷ 2 ∷ 1 ∷ 1 ∷ 217 ∷ 13 ∷ 153 ∷ 14 ∷ [] }
-unfolding sent allowedFrame allowed isField slotsSent wordSent areaSent joined interleaved tabulate
+unfolding sent allowedFrame allowed isField slotsSent wordSent areaSent joined transposed tabulate
 sent-example = rw (encoded-0, encoded-1)
 
 -- ---- received: slots 2 and 3 were 65 and 2

@@ -64,18 +64,3 @@ pub part-entries : (k w : ℕ) (l : List ℕ) → w * k + k ≤ length l → tab
 part-entries k w l h =
     sym (tabulated (part k w l) k (λ i. at l (w * k + i)) 0 (length-take-le k (drop (w * k) l) (simp length-drop (omega arith)))
     λ i u. getD-take k (drop (w * k) l) i 0 u ∙ getD-drop (w * k) l i 0)
-
--- ---- the first that passes, known by what stands before it
-
-pub first-none : (n : ℕ) (t : ℕ → Bool) → ((i : ℕ) → i < n → t i ≡ false) → firstBelow n t ≡ n
-unfolding firstBelow
-first-none zero t h = refl
-first-none (suc n) t h = rw (first-none n t λ i l. h i (omega arith), le-ltb n n (omega arith), h n (omega arith))
-
-pub first-is : (n : ℕ) (t : ℕ → Bool) (w : ℕ) → w < n → ((i : ℕ) → i < w → t i ≡ false) → t w ≡ true → firstBelow n t ≡ w
-unfolding firstBelow
-first-is zero t w l h e = absurd (not-suc-le-zero l)
-first-is (suc n) t w l h e = elim (ℕ-discrete w n) [
-  | yes g ↦ rw (first-none n t λ i u. h i (omega arith), le-ltb n n (omega arith), ← g, e)
-  | no g ↦ rw (first-is n t w (omega arith) h e, lt-ltb w n (omega arith))
-]

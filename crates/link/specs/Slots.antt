@@ -1,23 +1,24 @@
 -- Document 01, "Block interleaver and frame": byte i of word w goes to slot i·J + w. A frame's words are read from their slots, and
--- written to them, one at a time.
+-- written to them, one at a time. The rule itself is the block interleaver's.
 -- Assumes nothing.
 use mathlib.Core.Path.{_≡_, refl, sym, ap, _∙_}
+use mathlib.Core.Bool.{Bool, true, false}
 use mathlib.Core.List.{List}
 use Prim.Native.Nat.{ℕ, _+_, _*_, _/_, _%_, _≤_, _<_}
-use native.Mathlib.Nat.{not-suc-le-zero, mul-add-mod-self-right, mul-add-div-right, mod-eq-of-lt, div-eq-of-lt, mul-le-mul-right, suc-mul, div-add-mod', div-lt-iff-lt-mul, mod-lt}
+use native.Mathlib.Nat.{not-suc-le-zero, div-add-mod', div-lt-iff-lt-mul, mod-lt}
 use native.Mathlib.Decide.{ℕ-discrete}
 use native.Mathlib.Omega.{arith}
 use borrow.Author.Count.{below-more}
 use lib.ListN.{length, set, length-set}
 use lib.Seq.{getD-set-same, getD-set-other}
 use lib.Dec.{T}
-use Rattle.algebra.specs.Tests.{at, below, below-all}
+use Rattle.algebra.specs.Tests.{at, below, below-at, below-all, passed}
 use Rattle.algebra.specs.Lists.{tabulate, length-tabulate, getD-tabulate, tabulated, Filled, filled-none, filled-more, filled-all}
+use Rattle.rings.specs.Refusal.{Says}
+use Rattle.rings.specs.Marks.{Marks}
+use Rattle.interleave.specs.Block
+use Rattle.interleave.specs.Block.{transposed, spread, gather, low, high, in-block, slot-rule}
 use Rattle.link.specs.Lists.{joined, joined-at}
-
--- slot t holds byte t / J of word t % J; the J words of n bytes lie end to end
-unfoldable pub interleaved : ℕ → ℕ → List ℕ → List ℕ
-interleaved J n words = tabulate (n * J) λ t. at words (t % J * n + t / J)
 
 -- byte i of word w
 abbrev pub slotByte : ℕ → ℕ → List ℕ → ℕ → ℕ
@@ -27,23 +28,9 @@ slotByte J w slots i = at slots (i * J + w)
 unfoldable pub wordIn : ℕ → ℕ → List ℕ → ℕ → List ℕ
 wordIn J n slots w = tabulate n (slotByte J w slots)
 
--- ---- a slot's number has a digit below J
-
-pub low : (i w : ℕ) {J : ℕ} → w < J → (i * J + w) % J ≡ w
-low i w {J} h = mul-add-mod-self-right i J w ∙ mod-eq-of-lt h
-
-pub high : (i w : ℕ) {J : ℕ} → w < J → (i * J + w) / J ≡ i
-high i w {J} h =
-    let z : w / J ≡ 0 = div-eq-of-lt h in
-    mul-add-div-right (omega arith) i w ∙ omega arith
-
-pub in-frame : (i w J n : ℕ) → i < n → w < J → i * J + w < n * J
-in-frame i w J n h k = omega (arith, mul-le-mul-right J h, suc-mul i J)
-
--- the rule of the paper, both ways
-pub slot-rule : (J n : ℕ) (words : List ℕ) (i w : ℕ) → i < n → w < J → at (interleaved J n words) (i * J + w) ≡ at words (w * n + i)
-unfolding interleaved
-slot-rule J n words i w h k = getD-tabulate (n * J) _ (i * J + w) 0 (in-frame i w J n h k) ∙ rw (low i w k, high i w k)
+-- the slot of byte i is one of the frame's
+pub in-slots : (i w J n size : ℕ) → i < n → w < J → size ≡ n * J → i * J + w < size
+in-slots i w J n size h k e = rw e (in-block i w J n h k)
 
 pub place-rule : (J n : ℕ) (slots : List ℕ) (i w : ℕ) → i < n → at (wordIn J n slots w) i ≡ at slots (i * J + w)
 unfolding wordIn
@@ -53,12 +40,27 @@ pub length-wordIn : (J n : ℕ) (slots : List ℕ) (w : ℕ) → length (wordIn 
 unfolding wordIn
 length-wordIn J n slots w = length-tabulate n (slotByte J w slots)
 
+-- the words that are read are those of the interleaver's way back
+pub word-is-gathered : (J n i w : ℕ) (slots : List ℕ) → i < n → w < J → at (wordIn J n slots w) i ≡ at (gather J n slots) (w * n + i)
+word-is-gathered J n i w slots h k = place-rule J n slots i w h ∙ sym (Block.place-rule J n i w slots h k)
+
 -- a word that was interleaved is read again
-pub word-back : (J n : ℕ) (f : ℕ → List ℕ) → ((w : ℕ) → w < J → length (f w) ≡ n) → (w : ℕ) → w < J → wordIn J n (interleaved J n (joined J f)) w ≡ f w
+pub word-back : (J n : ℕ) (f : ℕ → List ℕ) → ((w : ℕ) → w < J → length (f w) ≡ n) → (w : ℕ) → w < J → wordIn J n (spread J n (joined J f)) w ≡ f w
 unfolding wordIn
 word-back J n f h w k =
-    sym (tabulated (f w) n (slotByte J w (interleaved J n (joined J f))) 0 (h w k)
-    λ i u. sym (slot-rule J n (joined J f) i w u k ∙ joined-at n f J h w i k u))
+    sym (tabulated (f w) n (slotByte J w (spread J n (joined J f))) 0 (h w k)
+    λ i u. sym (slot-rule J n i w (joined J f) u k ∙ joined-at n f J h w i k u))
+
+-- ---- marks that were looked at
+
+-- a mark above 1 is not below 2
+pub marks-tested : (r : Bool) (marks : List ℕ) → Says r (Marks marks) → r ≡ below 2 marks
+marks-tested true marks p = sym (passed (below 2 marks) (below-all 2 marks λ i l. omega (arith, p i l)))
+marks-tested false marks p = go (below 2 marks) refl
+  where
+    go : (b : Bool) → below 2 marks ≡ b → false ≡ b
+    go true e = absurd (p λ i l. omega (arith, below-at 2 marks (rw e tt) i (omega arith)))
+    go false e = refl
 
 -- ---- a loop that fills a buffer with bytes
 
@@ -135,8 +137,8 @@ module _ (J n : ℕ) (f : ℕ → List ℕ) (w : ℕ) where
     ];
   }
 
-  pub spread-all : (slots : List ℕ) → J ≤ w → 0 < J → Spread J n f w slots → slots ≡ interleaved J n (joined J f)
-  unfolding interleaved
+  pub spread-all : (slots : List ℕ) → J ≤ w → 0 < J → Spread J n f w slots → slots ≡ spread J n (joined J f)
+  unfolding transposed
   spread-all slots h j p = tabulated slots (n * J) (λ t. at (joined J f) (t % J * n + t / J)) 0 (p .size) λ t u.
       let m : t % J < J = mod-lt t j in
       p .done t (omega arith) u ∙ sym (joined-at n f J (λ i l. p .sizes i (omega arith)) (t % J) (t / J) m (div-lt-iff-lt-mul j .1 u))

@@ -50,29 +50,17 @@ pub fn words_of(f: Framing) -> Setting
     }
 }
 
-// Whether a frame's setting keeps the limits. Those of depth, n and r come first, so that the area's size is small.
+// Whether a frame's setting keeps the limits. The words' come first, so that the area's size is small.
 pub fn is_allowed(f: Framing) -> bool
     ensures { λ r. ⌜ r ≡ allowedFrame f ⌝ }
 {
+    if !word::is_allowed(words_of(f)) {
+        return false;
+    }
     if f.depth < 1 {
         return false;
     }
     if 16 < f.depth {
-        return false;
-    }
-    if f.r < 2 {
-        return false;
-    }
-    if 16 < f.r {
-        return false;
-    }
-    if f.n <= f.r {
-        return false;
-    }
-    if 255 < f.n {
-        return false;
-    }
-    if 1 < f.b {
         return false;
     }
     if f.depth * (f.n - f.r) < 4 {

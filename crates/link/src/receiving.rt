@@ -11,13 +11,13 @@ use crate::frame::Received;
 use crate::frame::Verdict;
 use crate::frame::is_allowed;
 use crate::frame::words_of;
-use crate::slots::marks_fit;
 use crate::slots::take_word;
 use crate::slots::work_space;
-use crate::trailer::clear;
 use crate::trailer::is_good;
 use crate::trailer::payload;
 use crate::trailer::two_at;
+use rings::fill;
+use rings::marks_fit;
 use word::Decoded;
 use word::Figures;
 
@@ -141,7 +141,7 @@ fn settle(area: &mut [u8], figures: [Figures; 16]) -> Received
     ensures { λ r. ⌜ answered r (now (area .exit)) ≡ settled (length (now (area .entry))) figures (now (area .entry)) ⌝ }
 {
     if !is_good(area) {
-        clear(area);
+        fill(area, 0);
         return refused(Verdict::BadTrailer);
     }
     let end = area.len() - 4;
@@ -162,7 +162,7 @@ fn receive_checked(f: Framing, slots: &[u8], marks: &[u8], area: &mut [u8]) -> R
     let mut marked = work_space();
     let words = receive_words(f, slots, marks, &mut word[..f.n], &mut marked[..f.n], area);
     if words.accepted < f.depth {
-        clear(area);
+        fill(area, 0);
         return refused(Verdict::BeyondReach(words.accepted as u8));
     }
     let figures = words.figures;

@@ -3,7 +3,6 @@
 ghost use mathlib.Core.Path.{_≡_};
 ghost use Prim.Native.Nat.{_*_, _<_, _≤_};
 ghost use lib.ListN.{length};
-ghost use Rattle.algebra.specs.Tests.{below};
 ghost use Rattle.link.specs.Slots.{Copied, Placed, slotByte};
 
 // Work space for one word, filled with zeros. A call of its own keeps the array out of its callers' proofs.
@@ -35,18 +34,4 @@ pub fn put_word(depth: usize, w: usize, word: &[u8], slots: &mut [u8])
         slots[i * depth + w] = word[i];
         i += 1;
     }
-}
-
-// Whether every mark is 0 or 1.
-pub fn marks_fit(marks: &[u8]) -> bool
-    ensures { λ r. ⌜ r ≡ below 2 (now (marks .entry)) ⌝ }
-{
-    let mut i = 0;
-    while i < marks.len() {
-        if 2 <= marks[i] {
-            return false;
-        }
-        i += 1;
-    }
-    true
 }

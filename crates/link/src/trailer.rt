@@ -1,7 +1,7 @@
 // The message area and its trailer: zeros, the payload, and in the last four bytes how far back it goes and the sequence number.
 ghost use mathlib.Core.Path.{_≡_};
 ghost use Prim.Native.Nat.{_+_, _<_, _≤_};
-ghost use lib.ListN.{length, replicate};
+ghost use lib.ListN.{length};
 ghost use Rattle.algebra.specs.Tests.{at};
 ghost use Rattle.link.specs.Slots.{Copied};
 ghost use Rattle.link.specs.Frame.{trailer, twoAt, areaByte, areaSent, zerosBefore, trailerGood, isDone, payloadOf};
@@ -87,17 +87,6 @@ pub fn is_good(area: &[u8]) -> bool
         return false;
     }
     zeros_before(area, room - back)
-}
-
-// Fills the area with zeros.
-pub fn clear(area: &mut [u8])
-    ensures { λ _. ⌜ now (area .exit) ≡ replicate (length (now (area .entry))) 0 ⌝ }
-{
-    let mut i = 0;
-    while i < area.len() {
-        area[i] = 0;
-        i += 1;
-    }
 }
 
 // Whether the frame was accepted.

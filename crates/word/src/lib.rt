@@ -7,7 +7,6 @@ ghost use Rattle.word.specs.Answers.Laws.{Refuses};
 use buffer::all_below;
 use buffer::copy;
 use buffer::join;
-use limits::is_allowed;
 use limits::refusal;
 use limits::symbols_of;
 use settle::settle;
@@ -17,6 +16,8 @@ mod buffer;
 mod count;
 mod limits;
 mod settle;
+
+pub use limits::is_allowed;
 
 // What a word code is set to: m bits a symbol, n symbols a word, r check symbols, and b, the power of a at which its zeros start.
 pub struct Setting {

@@ -13,7 +13,7 @@ use borrow.Author.Count.{below-more}
 use lib.ListN.{length, getD, set, take, drop, replicate, length-append, length-take, length-drop, length-set}
 use lib.Seq.{take-at, drop-at, drop-drop, drop-length, getD-set-same, getD-set-other}
 use lib.Dec.{T, ltb}
-use Rattle.algebra.specs.Tests.{if_then_else_, at, below, below-at, below-all, passed}
+use Rattle.algebra.specs.Tests.{if_then_else_, at, below, below-at, below-all, passed, first-none, first-is}
 use Rattle.algebra.specs.Lists.{tabulate, tabulated}
 use Rattle.word.specs.Setting.{allowed, messageSize, allowed-yes}
 use Rattle.word.specs.Answers.{noFigures, figures, outcome, decodedPart, sized, proper, refusal}
@@ -21,7 +21,7 @@ use Rattle.word.specs.Answers.Laws.{part-found, part-lost, decode-part-once, re
 use Rattle.word.specs.declared.Figures.{Figures}
 use Rattle.word.specs.declared.Decoded.{Decoded}
 use Rattle.word.specs.declared.Decoded.the-variants as D
-use Rattle.link.specs.Lists.{joined, one-more, within, joined-more, length-joined, first-none, first-is}
+use Rattle.link.specs.Lists.{joined, one-more, within, joined-more, length-joined}
 use Rattle.link.specs.Slots.{wordIn, slotByte, Copied, place-rule, length-wordIn}
 use Rattle.link.specs.Frame.{wordSetting, areaSize, slotCount, isNone, receivedWord, receivedMarks, correctedWord, messageOf, figuresAt, beyond, areaReceived, figuresReceived}
 use Rattle.link.specs.Frame.Limits.{FrameAllowed}

@@ -2,14 +2,14 @@
 -- Assumes nothing.
 use mathlib.Core.Path.{_≡_, refl}
 use mathlib.Core.Bool.{Bool, true, false, _&&_}
-use Prim.Native.Nat.{_-_, _*_, _≤_, _<_}
+use Prim.Native.Nat.{_-_, _*_, _≤_}
 use native.Mathlib.Nat.{mul-le-mul-right}
 use native.Mathlib.Omega.{arith}
 use lib.Dec.{T, leb, leb→le}
 use borrow.Author.Tests.{le-leb}
 use Rattle.algebra.specs.Tests.{first, second}
-use Rattle.field.specs.Answers.{isField}
 use Rattle.word.specs.Setting.{allowed, Allowed, limits, allowed-yes}
+use Rattle.word.specs.declared.Setting.{Setting}
 use Rattle.link.specs.Frame.{wordSetting, slotCount, areaSize, allowedFrame}
 use Rattle.link.specs.declared.frame.Framing.{Framing}
 
@@ -39,9 +39,9 @@ module _ (f : Framing) where
   pub frame-kept : allowedFrame f ≡ true → FrameAllowed f
   frame-kept e = frame-limits (rw e tt)
 
-  frame-allowed : FrameAllowed f → true ≡ allowedFrame f
+  pub frame-yes : FrameAllowed f → true ≡ allowedFrame f
   unfolding allowedFrame
-  frame-allowed a =
+  frame-yes a =
       rw (← allowed-yes (wordSetting f) (a .words), le-leb 1 (f .depth) (a .some), le-leb (f .depth) 16 (a .few), le-leb 4 (areaSize f) (a .room))
 
   pub frame-no : (FrameAllowed f → ⊥) → false ≡ allowedFrame f
@@ -51,24 +51,26 @@ module _ (f : Framing) where
       go true e = absurd (h (frame-limits (rw e tt)))
       go false e = refl
 
-  -- all limits kept, one by one
-  pub frame-yes : 1 ≤ f .depth → f .depth ≤ 16 → 2 ≤ f .r → f .r ≤ 16 → f .r < f .n → f .n ≤ 255 → f .b ≤ 1 → 4 ≤ areaSize f → true ≡ allowedFrame f
-  unfolding isField
-  frame-yes j k l h room short start a =
-      frame-allowed record { words = record { field = tt; low = l; high = h; room = room; short = omega arith; start = start }; some = j; few = k; room = a }
+  -- what the word code's own test says of the frame's words
+  pub words-no : allowed (wordSetting f) ≡ false → false ≡ allowedFrame f
+  unfolding allowedFrame
+  words-no e = rw e
+
+  pub words-yes : (s : Setting) (a : Bool) → s ≡ wordSetting f → a ≡ allowed s → a ≡ true → Allowed (wordSetting f)
+  words-yes s a e g h = let t : allowed (wordSetting f) ≡ true = cc in limits (wordSetting f) (rw t tt)
 
 -- k is at most 253, and A at most 4048
-pub area-small : (f : Framing) → f .depth ≤ 16 → f .r < f .n → f .n ≤ 255 → areaSize f ≤ 4080
-area-small f j l n =
-    let a : f .depth * (f .n - f .r) ≤ 16 * (f .n - f .r) = mul-le-mul-right (f .n - f .r) j in
-    omega arith
+pub area-small : (f : Framing) → Allowed (wordSetting f) → f .depth ≤ 16 → areaSize f ≤ 4080
+area-small f a j =
+    let b : f .depth * (f .n - f .r) ≤ 16 * (f .n - f .r) = mul-le-mul-right (f .n - f .r) j in
+    omega (arith, a .short)
 
 module _ (f : Framing) (a : FrameAllowed f) where
   pub short-word : f .n ≤ 255
   short-word = omega (arith, a .words .short)
 
   pub area-few : areaSize f ≤ 4080
-  area-few = area-small f (a .few) (a .words .room) short-word
+  area-few = area-small f (a .words) (a .few)
 
   pub slots-few : slotCount f ≤ 4080
   slots-few =

@@ -4,6 +4,7 @@ use mathlib.Core.Path.{sym, _∙_}
 use native.Mathlib.Omega.{arith}
 use borrow.Author.Needs.{needs}
 use borrow.Author.Tests.{not-true, not-false}
+use Rattle.link.specs.Slots.{marks-tested}
 use Rattle.link.specs.Frame.Limits.{frame-kept, area-few, slots-few}
 use Rattle.link.specs.Frame.Receiving.{receive-setting, receive-slots, receive-marks, receive-area, receive-mark, receive-decoded}
 use Rattle.link.proofs.receiving.receive.Statement.{statement}
@@ -63,11 +64,11 @@ refused-requires-5 : tie.Need-refused-requires-5
 refused-requires-5 c κs = search needs
 
 returns-5 : tie.Need-returns-5
-returns-5 c = rw (c .refused5 .ensures) (receive-mark _ _ _ _ (sym (c .before .before .before .before .before .before .before .before .before .before .before .is-allowed .ensures) ∙ not-false _ (c .before .before .before .before .before .before .before .before .before .before .if1 .left)) (c .before .before .before .before .before .before .before .before .if2 .left) (c .before .before .before .before .before .before .if3 .left) (c .before .before .before .if4 .left) (sym (c .before .before .marks-fit .ensures) ∙ not-true _ (c .before .if5 .taken)))
+returns-5 c = rw (c .refused5 .ensures) (receive-mark _ _ _ _ (sym (c .before .before .before .before .before .before .before .before .before .before .before .is-allowed .ensures) ∙ not-false _ (c .before .before .before .before .before .before .before .before .before .before .if1 .left)) (c .before .before .before .before .before .before .before .before .if2 .left) (c .before .before .before .before .before .before .if3 .left) (c .before .before .before .if4 .left) (sym (marks-tested (c .before .before .marks-fit .result) _ (c .before .before .marks-fit .ensures)) ∙ not-true _ (c .before .if5 .taken)))
 
 receive-checked-requires : tie.Need-receive-checked-requires
 receive-checked-requires c κs =
-    let small = sym (c .before .before .marks-fit .ensures) ∙ not-false _ (c .before .if5 .left) in
+    let small = sym (marks-tested (c .before .before .marks-fit .result) (c .before .before .before .before .before .before .before .before .before .before .before .before .before .before .before .args .marks .now) (c .before .before .marks-fit .ensures)) ∙ not-false _ (c .before .if5 .left) in
     record {
       limits = frame-kept _ (sym (c .before .before .before .before .before .before .before .before .before .before .before .is-allowed .ensures) ∙ not-false _ (c .before .before .before .before .before .before .before .before .before .before .if1 .left));
       slots-size = c .before .before .before .before .before .before .before .before .if2 .left;
@@ -81,7 +82,7 @@ same-length c = search needs
 
 returns-6 : tie.Need-returns-6
 returns-6 c =
-    c .before .before .receive-checked .ensures ∙ receive-decoded _ _ _ _ (sym (c .before .before .before .before .before .before .before .before .before .before .before .before .before .before .is-allowed .ensures) ∙ not-false _ (c .before .before .before .before .before .before .before .before .before .before .before .before .before .if1 .left)) (c .before .before .before .before .before .before .before .before .before .before .before .if2 .left) (c .before .before .before .before .before .before .before .before .before .if3 .left) (c .before .before .before .before .before .before .if4 .left) (sym (c .before .before .before .before .before .marks-fit .ensures) ∙ not-false _ (c .before .before .before .before .if5 .left))
+    c .before .before .receive-checked .ensures ∙ receive-decoded _ _ _ _ (sym (c .before .before .before .before .before .before .before .before .before .before .before .before .before .before .is-allowed .ensures) ∙ not-false _ (c .before .before .before .before .before .before .before .before .before .before .before .before .before .if1 .left)) (c .before .before .before .before .before .before .before .before .before .before .before .if2 .left) (c .before .before .before .before .before .before .before .before .before .if3 .left) (c .before .before .before .before .before .before .if4 .left) (sym (marks-tested (c .before .before .before .before .before .marks-fit .result) _ (c .before .before .before .before .before .marks-fit .ensures)) ∙ not-false _ (c .before .before .before .before .if5 .left))
 
 pub receive-spec : {M : Type 1} → statement M
 receive-spec =

@@ -47,8 +47,8 @@ receive-words-requires c κs =
     let marked : c .before .before .before .before .before .before .before .before .args .f .n ≤ length (c .before .before .before .work-space2 .result) = omega (arith, short-word _ (given .limits), c .before .before .before .work-space2 .ensures) in
     record { checked = given; word-size = length-take-le _ _ word; marked-size = length-take-le _ _ marked }
 
-clear-requires : tie.Need-clear-requires
-clear-requires c κs = search needs
+fill-requires : tie.Need-fill-requires
+fill-requires c κs = search needs
 
 cast-t20 : tie.Need-cast-t20
 cast-t20 c = omega (arith, c .before .before .before .before .before .before .before .before .before .before .before .before .before .before .before .before .before .before .before .before .before .pre .limits .few)
@@ -64,7 +64,7 @@ returns c =
     let given = c .before .before .before .before .before .before .before .before .before .before .before .before .before .before .before .before .before .before .before .before .before .before .pre in
     let words = c .before .before .before .before .before .before .before .before .before .before .before .before .before .receive-words in
     let size : length (words .last .1 .1 .1 .1 .1 .0) ≡ length (c .before .before .before .before .before .before .before .before .before .before .before .before .before .before .before .before .before .before .before .before .before .before .args .area .now) = search needs in
-    rw (c .refused .ensures, c .before .before .before .before .clear .ensures) (decoded-beyond _ _ _ _ (words .ensures .first) (c .before .before .before .before .before .before .if1 .taken) _ (size ∙ given .area-size))
+    rw (c .refused .ensures, c .before .before .before .before .fill .ensures) (decoded-beyond _ _ _ _ (words .ensures .first) (c .before .before .before .before .before .before .if1 .taken) _ (size ∙ given .area-size))
 
 settle-requires : tie.Need-settle-requires
 settle-requires c κs =
@@ -93,7 +93,7 @@ receive-checked-spec =
     array-borrow-prefix-marked
     slice-aggregate-receive-words-2
     receive-words-requires
-    clear-requires
+    fill-requires
     cast-t20
     refused-requires
     same-length

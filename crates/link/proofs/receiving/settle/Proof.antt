@@ -10,8 +10,8 @@ use Rattle.link.proofs.receiving.settle.Tie as tie
 is-good-requires : tie.Need-is-good-requires
 is-good-requires c κs = search needs
 
-clear-requires : tie.Need-clear-requires
-clear-requires c κs = search needs
+fill-requires : tie.Need-fill-requires
+fill-requires c κs = search needs
 
 refused-requires : tie.Need-refused-requires
 refused-requires c κs = search needs
@@ -23,7 +23,7 @@ returns : tie.Need-returns
 returns c =
     let args = c .before .before .before .before .before .before .before .before .before .args in
     let bad = sym (c .before .before .before .before .before .before .is-good .ensures) ∙ not-true _ (c .before .before .before .before .before .if1 .taken) in
-    rw (c .refused .ensures, c .before .before .before .clear .ensures) (settled-bad (args .figures) (args .area .now) bad)
+    rw (c .refused .ensures, c .before .before .before .fill .ensures) (settled-bad (args .figures) (args .area .now) bad)
 
 sub-end : tie.Need-sub-end
 sub-end c = search needs
@@ -50,7 +50,7 @@ settle-spec =
     tie.close
     (tie.spec
     is-good-requires
-    clear-requires
+    fill-requires
     refused-requires
     same-length
     returns

@@ -1,10 +1,10 @@
 -- `slots::put_word` meets its contract. The loop's invariant: the first i bytes are in the word's slots, and the other words' slots are as they were.
 -- Assumes nothing.
-use mathlib.Core.Path.{_≡_}
+use mathlib.Core.Path.{_≡_, _∙_}
 use Prim.Native.Nat.{_-_, _≤_}
 use native.Mathlib.Omega.{arith}
 use lib.ListN.{length}
-use Rattle.link.specs.Slots.{in-frame, Placed, placed-none, placed-more}
+use Rattle.link.specs.Slots.{in-slots, Placed, placed-none, placed-more}
 use Rattle.link.proofs.slots.put_word.Statement.{statement}
 use Rattle.link.proofs.slots.put_word.Tie as tie
 
@@ -21,31 +21,13 @@ shared-slice-read-slots : tie.Need-shared-slice-read-slots Inv-loop μ-loop
 shared-slice-read-slots c = omega arith
 
 mul-slots : tie.Need-mul-slots Inv-loop μ-loop
-mul-slots c =
-    let i = c .before .before .loop .i in
-    let args = c .before .before .before .args in
-    let size = c .before .before .loop .inv .1 .size in
-    let room = in-frame i (args .w) (args .depth) (length (args .word .now)) (omega arith) (c .before .before .before .pre .0) in
-    let all = c .before .before .before .pre .3 in
-    omega arith
+mul-slots c = omega (arith, in-slots (c .before .before .loop .i) _ _ _ _ (omega arith) (c .before .before .before .pre .0) (c .before .before .loop .inv .1 .size ∙ c .before .before .before .pre .3))
 
 add-slots : tie.Need-add-slots Inv-loop μ-loop
-add-slots c =
-    let i = c .before .before .loop .i in
-    let args = c .before .before .before .args in
-    let size = c .before .before .loop .inv .1 .size in
-    let room = in-frame i (args .w) (args .depth) (length (args .word .now)) (omega arith) (c .before .before .before .pre .0) in
-    let all = c .before .before .before .pre .3 in
-    omega arith
+add-slots c = omega (arith, in-slots (c .before .before .loop .i) _ _ _ _ (omega arith) (c .before .before .before .pre .0) (c .before .before .loop .inv .1 .size ∙ c .before .before .before .pre .3))
 
 slice-write-slots : tie.Need-slice-write-slots Inv-loop μ-loop
-slice-write-slots c =
-    let i = c .before .before .loop .i in
-    let args = c .before .before .before .args in
-    let size = c .before .before .loop .inv .1 .size in
-    let room = in-frame i (args .w) (args .depth) (length (args .word .now)) (omega arith) (c .before .before .before .pre .0) in
-    let all = c .before .before .before .pre .3 in
-    omega arith
+slice-write-slots c = omega (arith, in-slots (c .before .before .loop .i) _ _ _ _ (omega arith) (c .before .before .before .pre .0) (c .before .before .loop .inv .1 .size ∙ c .before .before .before .pre .3))
 
 add-i : tie.Need-add-i Inv-loop μ-loop
 add-i c = omega arith
@@ -55,12 +37,7 @@ loop-less c = omega arith
 
 loop-again : tie.Need-loop-again Inv-loop μ-loop
 loop-again c =
-    let i = c .before .before .loop .i in
-    let args = c .before .before .before .args in
-    let size = c .before .before .loop .inv .1 .size in
-    let room = in-frame i (args .w) (args .depth) (length (args .word .now)) (omega arith) (c .before .before .before .pre .0) in
-    let all = c .before .before .before .pre .3 in
-    (omega arith, placed-more _ _ _ _ _ _ (c .before .before .before .pre .0) (omega arith) (c .before .before .loop .inv .1))
+    (omega arith, placed-more _ _ _ _ _ _ (c .before .before .before .pre .0) (in-slots (c .before .before .loop .i) _ _ _ _ (omega arith) (c .before .before .before .pre .0) (c .before .before .loop .inv .1 .size ∙ c .before .before .before .pre .3)) (c .before .before .loop .inv .1))
 
 same-length : tie.Need-same-length Inv-loop μ-loop
 same-length c = c .before .loop .inv .1 .size

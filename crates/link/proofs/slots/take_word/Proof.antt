@@ -4,7 +4,7 @@ use mathlib.Core.Path.{refl}
 use Prim.Native.Nat.{_+_, _-_, _*_, _<_}
 use native.Mathlib.Omega.{arith}
 use lib.ListN.{length, getD}
-use Rattle.link.specs.Slots.{slotByte, in-frame, Copying, copying-none, copying-more, copying-all}
+use Rattle.link.specs.Slots.{slotByte, in-slots, Copying, copying-none, copying-more, copying-all}
 use Rattle.link.proofs.slots.take_word.Statement.{statement}
 use Rattle.link.proofs.slots.take_word.Tie as tie
 
@@ -18,31 +18,13 @@ loop-holds : tie.Need-loop-holds Inv-loop μ-loop
 loop-holds c = copying-none _ _ _ refl
 
 mul-word : tie.Need-mul-word Inv-loop μ-loop
-mul-word c =
-    let i = c .before .loop .i in
-    let args = c .before .before .args in
-    let size = c .before .loop .inv .filled .size in
-    let room = in-frame i (args .w) (args .depth) (length (args .word .now)) (omega arith) (c .before .before .pre .0) in
-    let all = c .before .before .pre .3 in
-    omega arith
+mul-word c = omega (arith, in-slots (c .before .loop .i) _ _ _ _ (omega (arith, c .before .loop .inv .filled .size)) (c .before .before .pre .0) (c .before .before .pre .3))
 
 add-word : tie.Need-add-word Inv-loop μ-loop
-add-word c =
-    let i = c .before .loop .i in
-    let args = c .before .before .args in
-    let size = c .before .loop .inv .filled .size in
-    let room = in-frame i (args .w) (args .depth) (length (args .word .now)) (omega arith) (c .before .before .pre .0) in
-    let all = c .before .before .pre .3 in
-    omega arith
+add-word c = omega (arith, in-slots (c .before .loop .i) _ _ _ _ (omega (arith, c .before .loop .inv .filled .size)) (c .before .before .pre .0) (c .before .before .pre .3))
 
 shared-slice-read-word : tie.Need-shared-slice-read-word Inv-loop μ-loop
-shared-slice-read-word c =
-    let i = c .before .before .loop .i in
-    let args = c .before .before .before .args in
-    let size = c .before .before .loop .inv .filled .size in
-    let room = in-frame i (args .w) (args .depth) (length (args .word .now)) (omega arith) (c .before .before .before .pre .0) in
-    let all = c .before .before .before .pre .3 in
-    omega arith
+shared-slice-read-word c = omega (arith, in-slots (c .before .before .loop .i) _ _ _ _ (omega (arith, c .before .before .loop .inv .filled .size)) (c .before .before .before .pre .0) (c .before .before .before .pre .3))
 
 slice-write-word : tie.Need-slice-write-word Inv-loop μ-loop
 slice-write-word c = omega arith
