@@ -57,6 +57,10 @@ unfolding allowed
 allowed-yes s a =
     rw (passed (isField (s .m)) (a .field), le-leb 2 (s .r) (a .low), le-leb (s .r) 16 (a .high), lt-ltb (s .r) (s .n) (a .room), lt-ltb (s .n) (2 ^ s .m) (a .short), le-leb (s .b) 1 (a .start))
 
+-- no second answer meets the promise of `is_allowed`
+pub allowed-once : (s : Setting) (r t : Bool) → r ≡ allowed s → t ≡ allowed s → r ≡ t
+allowed-once s r t p q = cc
+
 pub allowed-no : (s : Setting) → (Allowed s → ⊥) → false ≡ allowed s
 allowed-no s h = go (allowed s) refl
   where
