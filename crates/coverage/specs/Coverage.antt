@@ -1,0 +1,94 @@
+-- Demand 3: what is sent over a block frame or a delay line and damaged within the bound comes back as sent. Each sentence of the demand is a
+-- statement here; Proved.antt proves them. They speak of the promises of the calls below, and of no code.
+-- Assumes nothing.
+use mathlib.Core.Path.{_≡_}
+use mathlib.Core.List.{List, [], _∷_}
+use Prim.Native.Nat.{ℕ, _+_, _*_, _≤_, _<_}
+use lib.ListN.{length, getD}
+use lib.Dec.{T}
+use Rattle.interleave.specs.Runs.{Clear}
+use Rattle.link.specs.Frame.{allowedFrame}
+use Rattle.link.specs.declared.frame.Framing.{Framing}
+use Rattle.coverage.specs.Channel.{half, Struck, Marked, Each}
+use Rattle.coverage.specs.Frame.{Message, Frame, FrameWithin, frameAt, Arrives, Answer, Answers, ComesBack}
+use Rattle.coverage.specs.Line.{LineSetting, LineAllowed, delay, LineWithin, LineArrives, LineReceived, leaving, WordComesBack}
+
+-- ---- Any messages that fit, sent over the block frame or the delay line and damaged or marked within that bound in every word, come back as sent.
+
+abbrev pub FrameComesBack : Type 0
+FrameComesBack = (f : Framing) → T (allowedFrame f) → (m : Message) (frame : Frame) (a : Answer) → Arrives f m frame → Answers f frame a → ComesBack m a
+
+abbrev pub FramesComeBack : Type 0
+FramesComeBack =
+    (f : Framing) → T (allowedFrame f) → (ms : List Message) (frames : List Frame) (answers : List Answer)
+    → Each (Arrives f) ms frames → Each (Answers f) frames answers → Each ComesBack ms answers
+
+abbrev pub LineComesBack : Type 0
+LineComesBack =
+    (l : LineSetting) → LineAllowed l → (messages : List (List ℕ)) (slots marks bytes flags : List ℕ) → LineArrives l messages slots marks → LineReceived l slots marks bytes flags
+    → (w : ℕ) → w < length messages → WordComesBack l (getD messages w []) (leaving l flags w) (leaving l bytes w)
+
+-- ---- One unmarked run of up to depth · t slots, alone, is within it wherever it falls: in a frame, ..
+
+abbrev pub FrameRunWithin : Type 0
+FrameRunWithin =
+    (f : Framing) (start size : ℕ) (sent slots marks : List ℕ) → size ≤ f .depth * half (f .r)
+    → Struck ((start, size) ∷ []) sent slots marks → FrameWithin f marks slots sent
+
+-- .. among frames that come one after the other, so also across the border of two; ..
+abbrev pub FramesRunWithin : Type 0
+FramesRunWithin =
+    (f : Framing) (start size i : ℕ) (sent slots marks : List ℕ) → size ≤ f .depth * half (f .r)
+    → Struck ((start, size) ∷ []) sent slots marks → FrameWithin f (frameAt f marks i) (frameAt f slots i) (frameAt f sent i)
+
+-- .. and on a line.
+abbrev pub LineRunWithin : Type 0
+LineRunWithin =
+    (l : LineSetting) → LineAllowed l → (many start size : ℕ) (sent slots marks : List ℕ) → size ≤ l .branches * half (l .r)
+    → Struck ((start, size) ∷ []) sent slots marks → LineWithin l many marks slots sent
+
+-- Several runs on a line are covered if at least n + (I - 1)·M·I clean slots lie between them.
+abbrev pub LineRunsWithin : Type 0
+LineRunsWithin =
+    (l : LineSetting) → LineAllowed l → (many : ℕ) (runs : List (ℕ × ℕ)) (sent slots marks : List ℕ) → Clear (l .branches * half (l .r)) (l .n + delay l) runs
+    → Struck runs sent slots marks → LineWithin l many marks slots sent
+
+-- ---- So two different lists of equally many messages, sent under one setting and damaged within it, never arrive with the same slots and marks.
+
+abbrev pub NoTwoFramesAlike : Type 0
+NoTwoFramesAlike =
+    (f : Framing) → T (allowedFrame f) → (ms ns : List Message) (frames : List Frame) → Each (Arrives f) ms frames → Each (Arrives f) ns frames → ms ≡ ns
+
+abbrev pub NoTwoLinesAlike : Type 0
+NoTwoLinesAlike =
+    (l : LineSetting) → LineAllowed l → (ms ns : List (List ℕ)) (slots marks : List ℕ) → length ms ≡ length ns
+    → LineArrives l ms slots marks → LineArrives l ns slots marks → ms ≡ ns
+
+-- ---- the demand
+
+pub record Demand3 : Type 0 where
+  pub frame : FrameComesBack
+  pub frames : FramesComeBack
+  pub line : LineComesBack
+  pub frame-run : FrameRunWithin
+  pub frames-run : FramesRunWithin
+  pub line-run : LineRunWithin
+  pub line-runs : LineRunsWithin
+  pub frames-differ : NoTwoFramesAlike
+  pub lines-differ : NoTwoLinesAlike
+
+-- ---- Beyond the demand: runs that the receiver has marked may be as long as depth · r, since a marked symbol costs half of an unmarked one.
+
+abbrev pub FrameMarkedRunWithin : Type 0
+FrameMarkedRunWithin =
+    (f : Framing) (start size : ℕ) (sent slots marks : List ℕ) → size ≤ f .depth * f .r
+    → Marked ((start, size) ∷ []) sent slots marks → FrameWithin f marks slots sent
+
+abbrev pub LineMarkedRunsWithin : Type 0
+LineMarkedRunsWithin =
+    (l : LineSetting) → LineAllowed l → (many : ℕ) (runs : List (ℕ × ℕ)) (sent slots marks : List ℕ) → Clear (l .branches * l .r) (l .n + delay l) runs
+    → Marked runs sent slots marks → LineWithin l many marks slots sent
+
+pub record MarkedRuns : Type 0 where
+  pub frame : FrameMarkedRunWithin
+  pub line : LineMarkedRunsWithin

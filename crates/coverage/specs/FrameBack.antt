@@ -1,0 +1,211 @@
+-- A frame that is damaged within the bound comes back: each word is corrected to the one that was sent, so the area and its trailer are those
+-- that were sent (document 01, Block interleaver and frame).
+-- Assumes nothing.
+use mathlib.Core.Path.{_≡_, refl, sym, ap, ap₂, _∙_}
+use mathlib.Core.Bool.{true}
+use mathlib.Core.List.{List, _++_, append-assoc}
+use mathlib.Core.Option.{some}
+use Prim.Native.Nat.{ℕ, zero, suc, _+_, _-_, _*_, _/_, _%_, _≤_, _<_}
+use native.Mathlib.Nat.{zero-mul, suc-mul}
+use native.Mathlib.Omega.{arith}
+use lib.ListN.{length, take, drop, replicate, length-drop, length-replicate}
+use lib.Seq.{take-add, take-at, drop-at, take-all, length-take-le, getD-take, getD-drop}
+use lib.Dec.{T, ltb, lt→ltb}
+use Rattle.algebra.specs.Tests.{at, below, both, below-all, below-at, below-append, first-none, passed}
+use Rattle.algebra.specs.Lists.{length-tabulate}
+use Rattle.word.specs.Setting.{allowed, messageSize, allowed-yes}
+use Rattle.word.specs.Code.{encoded}
+use Rattle.link.specs.Lists.{joined, part, within}
+use Rattle.link.specs.Slots.{wordIn, word-back}
+use Rattle.link.specs.Frame.{wordSetting, areaSize, allowedFrame, two, twoAt, trailer, areaSent, wordSent, slotsSent, trailerGood, correctedWord, isNone, messageOf, beyond, areaReceived, figuresReceived, payloadOf, answered, received, numberOf}
+use Rattle.link.specs.Frame.Limits.{FrameAllowed, frame-kept, area-few}
+use Rattle.link.specs.Frame.Trailer.{length-sent, sent-zero, sent-trailer, zeros-all, good-within, payload-there}
+use Rattle.link.specs.Frame.Sending.{send-done, send-once}
+use Rattle.link.specs.Frame.Receiving.{settled-good, decoded-settled, receive-decoded, receive-once}
+use Rattle.link.specs.declared.frame.Framing.{Framing}
+use Rattle.link.specs.declared.frame.Received.{Received}
+use Rattle.link.specs.declared.frame.Sent.the-variants as S
+use Rattle.link.specs.declared.frame.Verdict.the-variants.{Done}
+use Rattle.coverage.specs.Frame.{Message, Fits, FrameSent, frameWord, Frame, Arrives, Answer, Answers, ComesBack}
+use Rattle.coverage.specs.Coverage.{FrameComesBack, FramesComeBack, NoTwoFramesAlike}
+use Rattle.coverage.specs.Each.{each-chain, each-once}
+use Rattle.coverage.specs.Words.{Came, tabulate-below, word-corrected, encoded-code, encoded-size, encoded-message}
+
+-- ---- the parts of a list, joined again
+
+joined-front : (k : ℕ) (g : ℕ → List ℕ) (whole : List ℕ) (n : ℕ) → ((w : ℕ) → w < n → g w ≡ part k w whole) → joined n g ≡ take (n * k) whole
+unfolding joined
+joined-front k g whole zero h = rw zero-mul
+joined-front k g whole (suc n) h =
+    ap₂ _++_ (joined-front k g whole n λ w l. h w (omega arith)) (h n (omega arith)) ∙ sym (take-add (n * k) k whole) ∙ ap (λ (z : ℕ). take z whole) (sym (suc-mul n k))
+
+-- ---- bytes of the area
+
+two-bytes : (x : ℕ) → x < 65536 → T (below 256 (two x))
+unfolding below
+two-bytes x h = both (ltb (x % 256) 256) _ (lt→ltb (x % 256) 256 (omega arith)) (both (ltb (x / 256) 256) true (lt→ltb (x / 256) 256 (omega arith)) tt)
+
+zero-bytes : (n : ℕ) → T (below 256 (replicate n 0))
+unfolding below
+zero-bytes zero = tt
+zero-bytes (suc n) = zero-bytes n
+
+module _ (f : Framing) (ok : T (allowedFrame f)) where
+  limits : FrameAllowed f
+  limits = frame-kept f (passed _ ok)
+
+  code-allowed : T (allowed (wordSetting f))
+  code-allowed = rw (← allowed-yes (wordSetting f) (limits .words)) tt
+
+  abbrev k : ℕ
+  k = messageSize (wordSetting f)
+
+  module _ (m : Message) (fits : Fits f m) where
+    -- ---- what is sent
+
+    abbrev area : List ℕ
+    area = areaSent (areaSize f) (m .payload) (m .sequence)
+
+    -- the zeros before the payload
+    abbrev front : ℕ
+    front = areaSize f - 4 - length (m .payload)
+
+    -- word w of the area, and as it is sent
+    abbrev message : ℕ → List ℕ
+    message w = part k w area
+
+    abbrev word : ℕ → List ℕ
+    word w = encoded (wordSetting f) (message w)
+
+    room : length (m .payload) + 4 ≤ areaSize f
+    room = omega (arith, limits .room, fits .short)
+
+    area-size : length area ≡ areaSize f
+    area-size = length-sent (areaSize f) (m .payload) (m .sequence) room
+
+    area-bytes : T (below 256 area)
+    unfolding areaSent
+    area-bytes =
+        below-append 256 (replicate front 0 ++ m .payload) (trailer (length (m .payload)) (m .sequence)) (below-append 256 (replicate front 0) (m .payload) (zero-bytes front) (fits .bytes))
+        (below-append 256 (two (length (m .payload))) (two (m .sequence)) (two-bytes (length (m .payload)) (omega (arith, room, area-few f limits))) (two-bytes (m .sequence) (fits .number)))
+
+    message-size : (w : ℕ) → w < f .depth → length (message w) ≡ k
+    message-size w l = length-take-le k (drop (w * k) area) (simp length-drop (omega (arith, within w (f .depth) k l, area-size)))
+
+    message-bytes : (w : ℕ) → w < f .depth → T (below 256 (message w))
+    message-bytes w l = below-all 256 (message w) λ i u.
+        rw (getD-take k (drop (w * k) area) i 0 (omega (arith, message-size w l)), getD-drop (w * k) area i 0) (below-at 256 area area-bytes (w * k + i) (omega arith))
+
+    -- slots that meet the promise of `send` hold these words
+    slots-hold : (slots : List ℕ) → FrameSent f m slots → (w : ℕ) → w < f .depth → frameWord f slots w ≡ word w
+    unfolding wordIn wordSent slotsSent
+    slots-hold slots s w l =
+        ap (λ (z : List ℕ). frameWord f z w) (send-once f (m .payload) (m .sequence) (s .lent) (s .answer) S.Done slots _ (s .promise) (send-done f (m .payload) (m .sequence) (s .lent) (passed _ ok) (s .lent-size) (fits .short) _ refl) .1)
+        ∙ word-back (f .depth) (f .n) word (λ v h. encoded-size (wordSetting f) code-allowed (message v) (message-size v h) (message-bytes v h)) w l
+
+    -- ---- the trailer that was sent
+
+    trailer-at : (i : ℕ) → at area (areaSize f - 4 + i) ≡ at (trailer (length (m .payload)) (m .sequence)) i
+    trailer-at i =
+        let e : areaSize f - 4 + i - (areaSize f - 4) ≡ i = omega arith in
+        sym (sent-trailer (areaSize f) (m .payload) (m .sequence) room (areaSize f - 4 + i) (omega arith)) ∙ rw e
+
+    back-sent : twoAt area (areaSize f - 4) ≡ length (m .payload)
+    back-sent =
+        let e : areaSize f - 4 ≡ areaSize f - 4 + 0 = omega arith in
+        omega (arith, ap (at area) e ∙ trailer-at 0, trailer-at 1)
+
+    sequence-sent : twoAt area (areaSize f - 4 + 2) ≡ m .sequence
+    sequence-sent =
+        let e : areaSize f - 4 + 2 + 1 ≡ areaSize f - 4 + 3 = omega arith in
+        omega (arith, trailer-at 2, ap (at area) e ∙ trailer-at 3)
+
+    trailer-good : trailerGood (areaSize f) area ≡ true
+    trailer-good =
+        sym (good-within (areaSize f) area (omega (arith, back-sent, room)) true
+        (zeros-all _ area λ i l. sym (sent-zero (areaSize f) (m .payload) (m .sequence) room i (rw back-sent at l))))
+
+    payload-sent : take (length (m .payload)) (drop front area) ≡ m .payload
+    unfolding areaSent
+    payload-sent =
+        let rest : List ℕ = trailer (length (m .payload)) (m .sequence) in
+        ap (take (length (m .payload))) (ap (drop front) (append-assoc (replicate front 0) (m .payload) rest) ∙ drop-at (replicate front 0) (m .payload ++ rest) front (length-replicate front 0))
+        ∙ take-at (m .payload) rest (length (m .payload)) refl
+
+    -- ---- what is received
+
+    module _ (frame : Frame) (a : Arrives f m frame) where
+      -- the answer to the frame, whatever area is lent
+      abbrev answer : Received
+      answer = record { verdict = Done; sequence = m .sequence; back = length (m .payload); figures = figuresReceived f (frame .marks) (frame .slots) }
+
+      word-came : (w : ℕ) → w < f .depth → Came (wordSetting f) (frameWord f (frame .marks) w) (frameWord f (frame .slots) w) (word w)
+      word-came w l = record {
+        code = encoded-code (wordSetting f) code-allowed (message w) (message-size w l) (message-bytes w l);
+        near = rw (slots-hold (a .slots) (a .sending) w l) at (a .within w l);
+        size = length-tabulate (f .n) _;
+        marks-size = length-tabulate (f .n) _;
+        bytes = tabulate-below 256 (f .n) _ λ i u. below-at 256 (frame .slots) (a .channel .bytes) _ (omega arith);
+        zero-or-one = tabulate-below 2 (f .n) _ λ i u. below-at 2 (frame .marks) (a .channel .zero-or-one) _ (omega arith);
+      }
+
+      word-found : (w : ℕ) → w < f .depth → correctedWord f (frame .marks) (frame .slots) w ≡ some (word w)
+      unfolding correctedWord wordIn
+      word-found w l = word-corrected (wordSetting f) code-allowed _ _ (word w) (word-came w l)
+
+      none-beyond : beyond f (frame .marks) (frame .slots) ≡ f .depth
+      unfolding beyond
+      none-beyond = first-none (f .depth) (λ w. isNone (correctedWord f (frame .marks) (frame .slots) w)) λ w l. rw (word-found w l)
+
+      area-found : areaReceived f (frame .marks) (frame .slots) ≡ area
+      unfolding areaReceived messageOf
+      area-found =
+          joined-front k (messageOf f (frame .marks) (frame .slots)) area (f .depth) (λ w l. rw (word-found w l) (encoded-message (wordSetting f) code-allowed (message w) (message-size w l) (message-bytes w l)))
+          ∙ take-all (areaSize f) area (omega (arith, area-size))
+
+      payload-found : payloadOf answer area ≡ m .payload
+      payload-found =
+          let back : ℕ = length (m .payload) in
+          let e : length area - 4 - (length area - 4 - back) ≡ back = omega (arith, area-size, room) in
+          sym (payload-there answer area refl (omega (arith, area-size, room))) ∙ rw (e, area-size) payload-sent
+
+      answered-so : (lent : List ℕ) → length lent ≡ areaSize f → answered answer area ≡ received f (frame .marks) (frame .slots) lent
+      answered-so lent size =
+          settled-good (answer .figures) area (omega (arith, area-size, room)) (rw area-size trailer-good) (m .sequence) (length (m .payload)) (rw area-size (sym sequence-sent)) (rw area-size (sym back-sent))
+          ∙ decoded-settled f (frame .marks) (frame .slots) none-beyond (length area) (answer .figures) area area-size refl (sym area-found)
+          ∙ receive-decoded f (frame .marks) (frame .slots) lent (passed _ ok) (a .channel .slots-size) (a .channel .marks-size) size (passed _ (a .channel .zero-or-one))
+
+      -- no other answer meets the promise
+      comes-back : (r : Answer) → Answers f frame r → ComesBack m r
+      comes-back r p =
+          let (x, y) = receive-once f (frame .marks) (frame .slots) (p .lent) (r .received) answer (r .area) area (p .promise) (answered-so (p .lent) (p .lent-size)) in
+          record {
+            number = ap (λ (z : Received). numberOf (z .verdict)) x;
+            payload = ap₂ payloadOf x y ∙ payload-found;
+            sequence = ap (λ (z : Received). z .sequence) x;
+          }
+
+      -- and there is one
+      some-answer : (r : Answer) × Answers f frame r
+      some-answer = (
+        record { received = answer; area = area },
+        record { lent = replicate (areaSize f) 0; lent-size = length-replicate (areaSize f) 0; promise = answered-so _ (length-replicate (areaSize f) 0) },
+      )
+
+pub frame-comes-back : FrameComesBack
+frame-comes-back f ok m frame r a p = comes-back f ok m (a .fits) frame a r p
+
+pub frames-come-back : FramesComeBack
+frames-come-back f ok = each-chain (Arrives f) (Answers f) ComesBack (frame-comes-back f ok)
+
+-- ---- no two alike: one answer to the frame would have to give both messages
+
+frame-once : (f : Framing) → T (allowedFrame f) → (m n : Message) (frame : Frame) → Arrives f m frame → Arrives f n frame → m ≡ n
+frame-once f ok m n frame a b =
+    let (r, p) = some-answer f ok m (a .fits) frame a in
+    let x : ComesBack m r = frame-comes-back f ok m frame r a p in
+    let y : ComesBack n r = frame-comes-back f ok n frame r b p in
+    λ i. record { payload = (sym (x .payload) ∙ y .payload) i; sequence = (sym (x .sequence) ∙ y .sequence) i }
+
+pub no-two-frames-alike : NoTwoFramesAlike
+no-two-frames-alike f ok ms ns frames = each-once (Arrives f) (frame-once f ok) frames ms ns

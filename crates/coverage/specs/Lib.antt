@@ -1,0 +1,12 @@
+pub mod Channel
+pub mod Frame
+pub mod Line
+pub mod Coverage
+pub mod Each
+pub mod Words
+pub mod FrameBack
+pub mod LineCalls
+pub mod LineBack
+pub mod RunsCovered
+pub mod Proved
+pub mod Worked

@@ -1,0 +1,92 @@
+-- One word whose slots are within the bound: what the promises of `encode` and `decode` say of it.
+-- Assumes nothing.
+use mathlib.Core.Path.{_≡_, refl, sym, ap, _∙_}
+use mathlib.Core.Bool.{true}
+use mathlib.Core.List.{List}
+use mathlib.Core.Option.{some}
+use Prim.Native.Nat.{ℕ, _^_, _<_}
+use native.Mathlib.Omega.{arith}
+use lib.ListN.{length, take}
+use lib.Dec.{T}
+use Rattle.algebra.specs.Tests.{below, below-all, passed}
+use Rattle.algebra.specs.Lists.{tabulate, tabulated, length-tabulate, getD-tabulate}
+use Rattle.word.specs.Setting.{allowed, messageSize}
+use Rattle.word.specs.Codeword.{isCodeword, qualifies, codeword, is-near}
+use Rattle.word.specs.Code.{encoded, corrected}
+use Rattle.word.specs.Code.Laws.{qualifies-once, corrected-only, encoded-codeword, encoded-begins}
+use Rattle.word.specs.Answers.{numberOf, outcome, decoded, decodedPart, encodeOutcome, encodes, refusal, sized, proper, figures}
+use Rattle.word.specs.Answers.Laws.{refusal-none, sized-both, decode-found, decode-once, part-found, decode-part-once, encode-done, encode-once}
+use Rattle.word.specs.declared.Setting.{Setting}
+use Rattle.word.specs.declared.Figures.{Figures}
+use Rattle.word.specs.declared.Decoded.{Decoded}
+use Rattle.word.specs.declared.Decoded.the-variants.{Done}
+use Rattle.word.specs.declared.Encoded.{Encoded}
+use Rattle.word.specs.declared.Encoded.the-variants as E
+use Rattle.coverage.specs.Channel.{Within}
+
+pub tabulate-same : (n : ℕ) (f g : ℕ → ℕ) → ((i : ℕ) → i < n → f i ≡ g i) → tabulate n f ≡ tabulate n g
+tabulate-same n f g h = tabulated (tabulate n f) n g 0 (length-tabulate n f) λ i l. getD-tabulate n f i 0 l ∙ h i l
+
+pub tabulate-below : (q n : ℕ) (f : ℕ → ℕ) → ((i : ℕ) → i < n → f i < q) → T (below q (tabulate n f))
+tabulate-below q n f h = below-all q (tabulate n f) λ i u. let l : i < n = omega (arith, length-tabulate n f) in rw (getD-tabulate n f i 0 l) (h i l)
+
+-- ---- a message and its word
+
+module _ (s : Setting) (ok : T (allowed s)) where
+  module _ (message : List ℕ) (size : length message ≡ messageSize s) (bytes : T (below (2 ^ s .m) message)) where
+    -- what meets the promise of `encode` is the encoding
+    pub word-encoded : (lent word : List ℕ) (d : Encoded) → length lent ≡ s .n → encodeOutcome d word ≡ encodes s message lent → word ≡ encoded s message
+    word-encoded lent word d n e =
+        encode-once s message lent d E.Done word (encoded s message) e (encode-done s message lent (passed _ ok) size n (passed _ bytes) (encoded s message) refl) .1
+
+    pub encoded-code : T (isCodeword s (encoded s message))
+    encoded-code = encoded-codeword s ok message size bytes
+
+    pub encoded-size : length (encoded s message) ≡ s .n
+    encoded-size = codeword s (encoded s message) encoded-code .size
+
+    pub encoded-message : take (messageSize s) (encoded s message) ≡ message
+    encoded-message = rw (← size) (encoded-begins s message)
+
+-- ---- a codeword and what came of it
+
+pub record Came (s : Setting) (marks came sent : List ℕ) : Type 0 where
+  pub code : T (isCodeword s sent)
+  pub near : Within (s .r) marks came sent
+  pub size : length came ≡ s .n
+  pub marks-size : length marks ≡ s .n
+  pub bytes : T (below (2 ^ s .m) came)
+  pub zero-or-one : T (below 2 marks)
+
+module _ (s : Setting) (ok : T (allowed s)) (marks came : List ℕ) where
+  module _ (sent : List ℕ) (c : Came s marks came sent) where
+    sent-near : T (qualifies s marks came sent)
+    sent-near = is-near s marks came sent (record { code = codeword s sent (c .code); bound = c .near })
+
+    pub word-corrected : corrected s marks came ≡ some sent
+    word-corrected = corrected-only s ok marks came (c .size) sent sent-near
+
+    all-proper : proper s marks came ≡ true
+    unfolding proper
+    all-proper = rw (passed (below (2 ^ s .m) came) (c .bytes), passed (below 2 marks) (c .zero-or-one))
+
+    checks : refusal (allowed s) (sized s marks came) (proper s marks came) ≡ 0
+    checks = sym (refusal-none _ _ _ (passed _ ok) (sized-both s marks came (c .size) (c .marks-size)) all-proper)
+
+    -- every answer that meets the promise of `decode` is Done, and leaves the codeword that was sent
+    pub word-decoded : (d : Decoded) (word : List ℕ) → outcome d word ≡ decoded s marks came → (numberOf d ≡ 0) × (word ≡ sent)
+    word-decoded d word e =
+        let own : Figures = figures marks came sent in
+        let (x, y) = decode-once s marks came d (Done own) word sent e (decode-found s marks came checks sent own word-corrected refl) in
+        (ap numberOf x, y)
+
+    -- and every one that meets that of `decode_part` is Done, and leaves its message
+    pub part-decoded : (d : Decoded) (lent part : List ℕ) → length lent ≡ messageSize s → outcome d part ≡ decodedPart s marks came lent → (numberOf d ≡ 0) × (part ≡ take (messageSize s) sent)
+    part-decoded d lent part k e =
+        let own : Figures = figures marks came sent in
+        let (x, y) = decode-part-once s marks came lent d (Done own) part (take (messageSize s) sent) e (part-found s marks came lent k checks sent own word-corrected refl) in
+        (ap numberOf x, y)
+
+  -- two codewords that may both come so are one
+  pub word-once : (c d : List ℕ) → Came s marks came c → Came s marks came d → c ≡ d
+  word-once c d p q = qualifies-once s ok marks came (p .size) c d (sent-near c p) (sent-near d q)
