@@ -13,6 +13,7 @@ pub use frame::Framing;
 pub use frame::Received;
 pub use frame::Sent;
 pub use frame::Verdict;
+pub use frame::is_allowed;
 pub use receiving::receive;
 pub use receiving::receive_part;
 pub use sending::send;

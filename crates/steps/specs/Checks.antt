@@ -3,7 +3,6 @@
 use mathlib.Core.Path.{_≡_, refl, sym, ap, _∙_}
 use mathlib.Core.List.{List, [], _∷_, _++_}
 use Prim.Native.Nat.{ℕ, suc, _+_, _-_, _%_, _^_, _<_, _≤_}
-use native.Mathlib.Nat.{add-suc, add-zero}
 use native.Mathlib.Numerals.{add-one}
 use native.Mathlib.Decide.{ℕ-discrete, decLt}
 use native.Mathlib.Omega.{arith}
@@ -17,8 +16,8 @@ use Rattle.algebra.specs.Lists.{tabulate, length-tabulate, getD-tabulate, tabul
 use Rattle.algebra.specs.Numbers.{rest-below}
 use Rattle.algebra.specs.Horner.{pow, horner}
 use Rattle.algebra.specs.Register.{grow, generator, sweep, sweep-length, sweep-at, sweep-grow, fed, fed-at, fed-length, remainder, behind, checks, checks-length, checks-root, checks-in, checks-zeros}
-use Rattle.field.specs.Field.{times, reduce, product, a^}
-use Rattle.field.specs.Elements.{wide, known, numbers, K, prod, pow-power}
+use Rattle.field.specs.Field.{times, reduce, product}
+use Rattle.field.specs.Elements.{wide, known, numbers, K, prod}
 use Rattle.steps.specs.Places.{root}
 
 -- the monic polynomial with r of these roots, in the sixteen places of a register

@@ -1,17 +1,15 @@
 -- The message and the register's check symbols are the codeword that begins with the message.
 -- Assumes nothing.
 use mathlib.Core.Path.{_≡_, sym, ap, _∙_, subst}
-use mathlib.Core.Bool.{true}
 use mathlib.Core.List.{List, _++_}
-use Prim.Native.Nat.{ℕ, _+_, _-_, _^_, _<_}
+use Prim.Native.Nat.{ℕ, _+_, _^_, _<_}
 use native.Mathlib.Omega.{arith}
 use lib.Dec.{T}
 use lib.ListN.{length, take, length-append}
 use lib.Seq.{length-take-le, take-append-add, getD-take}
 use Rattle.algebra.specs.Tests.{at, below, below-all, below-append}
-use Rattle.field.specs.Elements.{wide}
-use Rattle.word.specs.Setting.{allowed, Allowed, limits, messageSize, named}
-use Rattle.word.specs.Codeword.{isCodeword, is-codeword}
+use Rattle.word.specs.Setting.{allowed, Allowed, limits, messageSize}
+use Rattle.word.specs.Codeword.{is-codeword}
 use Rattle.word.specs.Distance.{own-field}
 use Rattle.word.specs.Completion.{codeword-from}
 use Rattle.word.specs.Code.{encoded}

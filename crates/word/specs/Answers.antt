@@ -1,7 +1,7 @@
 -- Document 01, "Numbers a call can answer": this paper's number and values for each answer, and what encoding and decoding answer and
 -- leave, for every input.
 -- Assumes nothing.
-use mathlib.Core.Bool.{Bool, true, false, _&&_, not}
+use mathlib.Core.Bool.{Bool, _&&_, not}
 use mathlib.Core.Option.{Option, some, none}
 use mathlib.Core.List.{List}
 use Prim.Native.Nat.{ℕ, zero, suc, _^_}

@@ -5,12 +5,12 @@ use mathlib.Core.List.{List, _++_}
 use Prim.Native.Nat.{ℕ, _+_, _-_, _%_, _^_, _<_}
 use native.Mathlib.Nat.{mod-eq-of-lt, mod-lt}
 use native.Mathlib.Omega.{arith}
-use lib.Bits.{bitXor, xor-lt}
+use lib.Bits.{xor-lt}
 use lib.Dec.{T}
 use lib.ListN.{length, length-append}
 use lib.Pow.{pow-pos}
 use Rattle.algebra.specs.Tests.{at, below, below-all, below-append}
-use Rattle.algebra.specs.Horner.{pow, horner}
+use Rattle.algebra.specs.Horner.{horner}
 use Rattle.algebra.specs.Register.{checks, checks-length, checks-root, checks-in}
 use Rattle.field.specs.Field.{modulus}
 use Rattle.field.specs.Products.{product-below}

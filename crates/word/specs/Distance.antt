@@ -4,7 +4,7 @@
 use mathlib.Core.Path.{_≡_, refl, sym, ap, ap₂, _∙_, subst}
 use mathlib.Core.Logic.{_≢_}
 use mathlib.Core.List.{List, [], _∷_}
-use Prim.Native.Nat.{ℕ, zero, suc, _+_, _-_, _*_, _%_, _^_, _≤_, _<_}
+use Prim.Native.Nat.{ℕ, zero, suc, _+_, _-_, _^_, _≤_, _<_}
 use native.Mathlib.Nat.{mod-eq-of-lt}
 use native.Mathlib.Decide.{decLe}
 use native.Mathlib.Omega.{arith}
@@ -14,9 +14,8 @@ use lib.Pow.{pow-pos}
 use lib.Bits.{bitXor, xor-lt, xor-self}
 use lib.Dec.{T, ltb, ltb→lt}
 use Rattle.algebra.specs.Sets.{one, count}
-use Rattle.algebra.specs.Tests.{at, total, below, first, second, total-first, total-suc, below-at}
+use Rattle.algebra.specs.Tests.{at, total, below, first, second, total-first, below-at}
 use Rattle.algebra.specs.Xor.{_⊕_, same-below}
-use Rattle.algebra.specs.Ring.{Z-sym}
 use Rattle.algebra.specs.Peel.{Rep, Apart}
 use Rattle.algebra.specs.Vandermonde.{unlike, near-once}
 use Rattle.algebra.specs.Horner.{pow, horner, coef, syndromes, places-apart}

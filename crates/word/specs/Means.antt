@@ -1,7 +1,6 @@
 -- The promise of decoding read case by case: what a caller knows of each answer.
 -- Assumes nothing.
-use mathlib.Core.Path.{_≡_, refl, sym, ap, _∙_, subst}
-use mathlib.Core.Bool.{Bool, true, false}
+use mathlib.Core.Path.{_≡_, refl, sym, _∙_, subst}
 use mathlib.Core.List.{List}
 use mathlib.Core.Option.{Option, some, none}
 use Prim.Native.Nat.{ℕ, zero, suc, _≤_}
@@ -12,7 +11,7 @@ use Rattle.word.specs.Codeword.{qualifies}
 use Rattle.word.specs.Code.{corrected}
 use Rattle.word.specs.Code.Laws.{corrected-some, corrected-only}
 use Rattle.word.specs.Answers.{outcome, refusal, figures, sized, proper, decoded}
-use Rattle.word.specs.Answers.Laws.{Refuses, Checked, checked, refusal-most, decode-refused, decode-found, decode-lost, decode-once}
+use Rattle.word.specs.Answers.Laws.{Checked, checked, refusal-most, decode-refused, decode-found, decode-lost, decode-once}
 use Rattle.word.specs.declared.Setting.{Setting}
 use Rattle.word.specs.declared.Decoded.{Decoded}
 use Rattle.word.specs.declared.Decoded.the-variants.{Done, BadSetting, BadLength, BadSymbol, BeyondReach}

@@ -1,18 +1,16 @@
 -- What the decoder promises its two callers, and the laws for each of its ways out.
 -- Assumes nothing.
 use mathlib.Core.Path.{_≡_, refl, sym, ap, _∙_, subst}
-use mathlib.Core.Bool.{Bool, true, false}
+use mathlib.Core.Bool.{true, false}
 use mathlib.Core.List.{List, [], _∷_, _++_}
-use mathlib.Core.Option.{Option, some, none}
-use Prim.Native.Nat.{ℕ, zero, suc, _+_, _-_, _*_, _/_, _%_, _^_, _≤_, _<_}
+use mathlib.Core.Option.{some, none}
+use Prim.Native.Nat.{ℕ, zero, suc, _+_, _-_, _*_, _/_, _≤_, _<_}
 use native.Mathlib.Nat.{not-suc-le-zero, le-of-suc-le-suc}
 use native.Mathlib.Omega.{arith}
-use lib.Bits.{bitXor}
 use lib.Dec.{T}
 use lib.ListN.{length, take}
 use lib.Seq.{take-length, take-append-seam}
 use Rattle.algebra.specs.Tests.{at, total}
-use Rattle.word.specs.Setting.{allowed, limits}
 use Rattle.word.specs.Word.{errors, marked, bits}
 use Rattle.word.specs.Codeword.{qualifies, Codeword, near, is-near}
 use Rattle.word.specs.Distance.{errors-self}
@@ -27,7 +25,6 @@ use Rattle.steps.specs.Candidates.{Candidates}
 use Rattle.steps.specs.Corrections.{Corrected}
 use Rattle.word.specs.Solution.{clean, solved, left-zero, made-codeword}
 use Rattle.word.specs.declared.Setting.{Setting}
-use Rattle.word.specs.declared.Figures.{Figures}
 use Rattle.word.specs.declared.settle.Settled.{Settled}
 
 -- what the steps of a repair have made on the way to the word after it

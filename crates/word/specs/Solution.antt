@@ -1,8 +1,8 @@
 -- What the steps of the decoder establish together: the word they make is the one codeword that qualifies, if there is one; and what is
 -- left of the power sums tells whether it is a codeword.
 -- Assumes nothing.
-use mathlib.Core.Path.{_≡_, refl, sym, ap, _∙_, subst}
-use mathlib.Core.Logic.{_⊎_, inl, inr, _≢_}
+use mathlib.Core.Path.{_≡_, refl, sym, _∙_}
+use mathlib.Core.Logic.{_⊎_, _≢_}
 use mathlib.Core.List.{List}
 use Prim.Native.Nat.{ℕ, zero, suc, _+_, _-_, _*_, _%_, _^_, _≤_, _<_}
 use native.Mathlib.Nat.{mod-eq-of-lt, le-refl}
@@ -13,18 +13,18 @@ use lib.Seq.{ext-getD}
 use lib.Pow.{pow-pos}
 use lib.Bits.{bitXor, xor-lt, xor-self}
 use lib.Dec.{T}
-use Rattle.algebra.specs.Sets.{one, one-yes, count, count-mono, count-lt}
+use Rattle.algebra.specs.Sets.{one, count, count-mono, count-lt}
 use Rattle.algebra.specs.Tests.{at, total, below, total-first, below-at, below-all}
 use Rattle.algebra.specs.Xor.{same-below}
-use Rattle.algebra.specs.Ring.{Ring, ring, Z-trans, Z-sym, Z-other, zero-add, add-comm}
+use Rattle.algebra.specs.Ring.{Ring, ring, Z-trans, Z-sym, Z-other}
 use Rattle.algebra.specs.Polynomials.{ev}
 use Rattle.algebra.specs.Peel.{Places, Rep, peels, peels-same, far, far-same, far-cancel}
 use Rattle.algebra.specs.Horner.{pow, horner, coef, syndromes}
-use Rattle.algebra.specs.Decoding.{Good, Run, cand, others, cand-few, decoded}
+use Rattle.algebra.specs.Decoding.{Run, cand, others, cand-few, decoded}
 use Rattle.field.specs.Elements.{wide, K}
 use Rattle.word.specs.Setting.{Allowed, limits}
 use Rattle.steps.specs.Places.{locator, spots, flagged, spare}
-use Rattle.word.specs.Word.{errors, marked}
+use Rattle.word.specs.Word.{marked}
 use Rattle.word.specs.Codeword.{Codeword, Near}
 use Rattle.word.specs.Distance.{own-field, spots-apart, codeword-sums, marks-few, errors-few}
 use Rattle.word.specs.Completion.{codeword-from}
@@ -33,7 +33,7 @@ use Rattle.steps.specs.Syndromes.{Syndromes, syndromes-sums}
 use Rattle.steps.specs.Peeling.{PeeledAll}
 use Rattle.steps.specs.Elimination.{KernelVector}
 use Rattle.steps.specs.Candidates.{Candidates}
-use Rattle.steps.specs.Corrections.{ErrorAt, Fixed, Corrected, weightOf}
+use Rattle.steps.specs.Corrections.{Fixed, Corrected, weightOf}
 use Rattle.word.specs.declared.Setting.{Setting}
 
 -- ---- the marks are as many as the set that they flag

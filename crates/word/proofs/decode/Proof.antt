@@ -1,15 +1,11 @@
 -- `word::decode` meets its contract: a check's refusal leaves the word, and what the decoder found is copied over it.
 -- Assumes nothing.
-use mathlib.Core.Path.{_≡_, refl, sym, ap, _∙_, subst}
-use mathlib.Core.List.{List}
-use Prim.Native.Nat.{ℕ, _≤_, _<_}
+use mathlib.Core.Path.{_≡_, refl, sym, _∙_}
 use native.Mathlib.Omega.{arith}
 use borrow.Author.Needs.{needs}
 use borrow.Author.Tests.{not-true, not-false}
-use lib.ListN.{length, take}
 use Rattle.word.specs.Setting.{limits, at-most}
-use Rattle.word.specs.Answers.Laws.{Refuses, Checked, refusal-most, checked, decode-refused, decode-found, decode-lost}
-use Rattle.word.specs.Settled.{Settles}
+use Rattle.word.specs.Answers.Laws.{Checked, refusal-most, checked, decode-refused, decode-found, decode-lost}
 use Rattle.word.proofs.decode.Statement.{statement}
 use Rattle.word.proofs.decode.Tie as tie
 

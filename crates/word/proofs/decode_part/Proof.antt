@@ -1,14 +1,12 @@
 -- `word::decode_part` meets its contract: a refusal leaves the part, and the front of what the decoder found is copied to it.
 -- Assumes nothing.
-use mathlib.Core.Path.{_≡_, refl, sym, ap, _∙_}
-use Prim.Native.Nat.{ℕ, _-_, _≤_, _<_}
+use mathlib.Core.Path.{_≡_, refl, sym, _∙_}
 use native.Mathlib.Omega.{arith}
 use borrow.Author.Needs.{needs}
 use borrow.Author.Tests.{not-true, not-false}
-use lib.ListN.{length, take}
 use Rattle.word.specs.Setting.{limits, at-most, has-room}
-use Rattle.word.specs.Answers.Laws.{Refuses, Checked, refusal-most, checked, part-setting, part-length, part-refused, part-found, part-lost}
-use Rattle.word.specs.Settled.{Settles, message-front}
+use Rattle.word.specs.Answers.Laws.{Checked, refusal-most, checked, part-setting, part-length, part-refused, part-found, part-lost}
+use Rattle.word.specs.Settled.{message-front}
 use Rattle.word.proofs.decode_part.Statement.{statement}
 use Rattle.word.proofs.decode_part.Tie as tie
 

@@ -1,8 +1,7 @@
 -- `word::refused` meets its contract: each number from 1 to 3 has its own answer.
 -- Assumes nothing.
-use mathlib.Core.Path.{_≡_, refl, sym}
+use mathlib.Core.Path.{refl, sym}
 use native.Mathlib.Omega.{arith}
-use Rattle.word.specs.Answers.Laws.{Refuses}
 use Rattle.word.proofs.refused.Statement.{statement}
 use Rattle.word.proofs.refused.Tie as tie
 

@@ -1,16 +1,16 @@
 -- The answers one by one, as a proof of the code uses them; and that no second answer meets a promise.
 -- Assumes nothing.
 use mathlib.Core.Path.{_≡_, refl, sym, ap, _∙_}
-use mathlib.Core.Bool.{Bool, true, false, _&&_, not}
+use mathlib.Core.Bool.{Bool, true, false, _&&_}
 use mathlib.Core.List.{List}
-use mathlib.Core.Option.{Option, some, none}
+use mathlib.Core.Option.{some, none}
 use Prim.Native.Nat.{ℕ, zero, suc, _≤_, _<_, _^_}
 use native.Mathlib.Nat.{not-suc-le-zero}
 use native.Mathlib.Omega.{arith}
 use lib.ListN.{length, take}
 use lib.Dec.{T, eqb, eqb→eq}
 use borrow.Author.Tests.{eq-eqb, ne-eqb}
-use Rattle.algebra.specs.Tests.{if_then_else_, below, first, second}
+use Rattle.algebra.specs.Tests.{if_then_else_, below}
 use Rattle.field.specs.Elements.{wide}
 use Rattle.word.specs.Setting.{allowed, messageSize, limits, named}
 use Rattle.word.specs.Code.{encoded, corrected}

@@ -1,22 +1,20 @@
 -- What `encoded` and `corrected` are: all that anything above knows of them.
 -- Assumes nothing.
-use mathlib.Core.Path.{_≡_, refl, sym, ap, _∙_, subst}
-use mathlib.Core.Bool.{Bool, false, true, _&&_}
+use mathlib.Core.Path.{_≡_, sym, ap, _∙_, subst}
 use mathlib.Core.List.{List, [], _∷_, _++_}
 use mathlib.Core.Option.{Option, some, none, Option·getD}
-use Prim.Native.Nat.{ℕ, zero, suc, _+_, _-_, _*_, _^_, _≤_, _<_}
+use Prim.Native.Nat.{ℕ, zero, suc, _+_, _-_, _^_, _≤_, _<_}
 use native.Mathlib.Decide.{decLt}
 use native.Mathlib.Omega.{arith}
-use lib.ListN.{length, getD, take, drop, replicate, length-append, length-replicate, getD-replicate, List·getD-append}
+use lib.ListN.{length, take, drop, replicate, length-append, length-replicate, getD-replicate, List·getD-append}
 use lib.Seq.{getD-append-add, take-append-seam}
 use lib.Dec.{T, ltb}
 use Rattle.algebra.specs.Tests.{at, total, below, second}
 use Rattle.word.specs.Setting.{allowed, Allowed, limits}
 use Rattle.word.specs.Word.{errors, errorAt, errorOf-same, errorOf-marked, marked}
-use Rattle.word.specs.Codeword.{isCodeword, qualifies, Codeword, codeword, is-codeword, Near, near, is-near}
-use Rattle.word.specs.Search.{search}
+use Rattle.word.specs.Codeword.{isCodeword, qualifies, Codeword, codeword, Near, near, is-near}
 use Rattle.word.specs.Search.Laws.{Passes, Sound, search-sound, search-only, search-none}
-use Rattle.word.specs.Distance.{close-once, near-one, total-zero, errors-self}
+use Rattle.word.specs.Distance.{near-one, total-zero, errors-self}
 use Rattle.word.specs.Completion.{message-completes}
 use Rattle.word.specs.Code.{encoded, corrected}
 use Rattle.word.specs.declared.Setting.{Setting}

@@ -3,7 +3,6 @@
 use mathlib.Core.Path.{refl}
 use Prim.Native.Nat.{_-_}
 use native.Mathlib.Omega.{arith}
-use borrow.Author.Needs.{needs}
 use lib.ListN.{length}
 use Rattle.algebra.specs.Tests.{at}
 use Rattle.algebra.specs.Lists.{Filled, filled-none, filled-more, filled-front}

@@ -1,10 +1,10 @@
 -- `word::limits::is_allowed` meets its contract: each return is one limit, broken or, at the end, all kept.
 -- Assumes nothing.
-use mathlib.Core.Path.{_≡_, sym, _∙_}
+use mathlib.Core.Path.{sym, _∙_}
 use native.Mathlib.Omega.{arith}
 use borrow.Author.Needs.{needs}
 use borrow.Author.Tests.{not-true, not-false}
-use Rattle.word.specs.Setting.{Allowed, allowed-no, allowed-field, allowed-long, allowed-all}
+use Rattle.word.specs.Setting.{allowed-no, allowed-field, allowed-long, allowed-all}
 use Rattle.word.proofs.limits.is_allowed.Statement.{statement}
 use Rattle.word.proofs.limits.is_allowed.Tie as tie
 

@@ -1,7 +1,6 @@
 -- `word::limits::refusal` meets its contract: each return is the first check that fails, or, at the end, none does.
 -- Assumes nothing.
-use mathlib.Core.Path.{_≡_, refl, sym, _∙_}
-use mathlib.Core.Bool.{true, false}
+use mathlib.Core.Path.{sym, _∙_}
 use borrow.Author.Needs.{needs}
 use borrow.Author.Tests.{not-true, not-false}
 use Rattle.word.specs.Answers.Laws.{refusal-setting, refusal-length, refusal-symbol, refusal-none, sized-word, sized-marks, sized-both, proper-word, proper-marks, proper-both}

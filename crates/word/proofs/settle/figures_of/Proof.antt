@@ -1,6 +1,5 @@
 -- `word::settle::figures_of` meets its contract: each count is small enough for its place.
 -- Assumes nothing.
-use mathlib.Core.Path.{_≡_, refl}
 use native.Mathlib.Omega.{arith}
 use borrow.Author.Needs.{needs}
 use Rattle.word.proofs.settle.figures_of.Statement.{statement}

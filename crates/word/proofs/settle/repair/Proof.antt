@@ -1,11 +1,8 @@
 -- `word::settle::repair` meets its contract: each step's promise is a field of it.
 -- Assumes nothing.
-use mathlib.Core.Path.{_≡_, sym}
-use Prim.Native.Nat.{_<_}
 use native.Mathlib.Numerals.{add-one}
 use native.Mathlib.Omega.{arith}
 use borrow.Author.Needs.{needs}
-use Rattle.word.specs.Settled.{Repaired}
 use Rattle.word.proofs.settle.repair.Statement.{statement}
 use Rattle.word.proofs.settle.repair.Tie as tie
 

@@ -1,12 +1,10 @@
 -- `word::settle::settle` meets its contract: the front of `out` is what `solve` worked on.
 -- Assumes nothing.
-use mathlib.Core.Path.{_≡_, refl, sym, ap, _∙_}
 use native.Mathlib.Omega.{arith}
 use borrow.Author.Needs.{needs}
 use lib.ListN.{length-take, length-append, length-drop}
 use Rattle.word.specs.Setting.{limits, at-most}
-use Rattle.word.specs.Answers.Laws.{Checked}
-use Rattle.word.specs.Settled.{Settles, settles-front}
+use Rattle.word.specs.Settled.{settles-front}
 use Rattle.word.proofs.settle.settle.Statement.{statement}
 use Rattle.word.proofs.settle.settle.Tie as tie
 

@@ -1,14 +1,12 @@
 -- `word::settle::solve` meets its contract: each return is one law of `Settles`, from what the steps before it promise.
 -- Assumes nothing.
-use mathlib.Core.Path.{_≡_, refl, sym, ap, _∙_}
-use Prim.Native.Nat.{_≤_, _<_}
+use mathlib.Core.Path.{refl, sym, ap, _∙_}
 use native.Mathlib.Omega.{arith}
 use borrow.Author.Needs.{needs}
 use borrow.Author.Tests.{not-true, not-false}
 use lib.ListN.{length}
 use Rattle.word.specs.Setting.{limits, at-most}
-use Rattle.word.specs.Answers.Laws.{Checked}
-use Rattle.word.specs.Settled.{Settles, Repaired, marks-counted, copied, overmarked, found-clean, lost-left, lost-far, found-mended}
+use Rattle.word.specs.Settled.{marks-counted, copied, overmarked, found-clean, lost-left, lost-far, found-mended}
 use Rattle.word.proofs.settle.solve.Statement.{statement}
 use Rattle.word.proofs.settle.solve.Tie as tie
 

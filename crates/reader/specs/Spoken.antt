@@ -1,0 +1,82 @@
+-- Document 01, "Worked table": what the bench reader prints, for every input.
+-- Assumes nothing.
+use mathlib.Core.Bool.{not}
+use mathlib.Core.List.{List, _++_}
+use Prim.Native.Nat.{ℕ, _+_}
+use lib.Dec.{ltb, eqb}
+use lib.ListN.{length, getD, drop, replicate}
+use Rattle.algebra.specs.Tests.{if_then_else_, at}
+use Rattle.word.specs.Answers.{noFigures}
+use Rattle.word.specs.declared.Figures.{Figures}
+use Rattle.link.specs.Lists.{joined}
+use Rattle.link.specs.Frame.{slotCount, areaSize, allowedFrame, ReceiveOutcome, received}
+use Rattle.link.specs.declared.frame.Framing.{Framing}
+use Rattle.reader.specs.Text.{bytes, decimal, hexes}
+pub mod Head
+pub mod Answers
+pub mod Decides
+
+-- ---- the lines
+
+abbrev pub newline : List ℕ
+newline = bytes "\n"
+
+-- what a number is, and the number
+unfoldable pub named : List ℕ → ℕ → List ℕ
+named name n = name ++ decimal n
+
+unfoldable pub refusal : ℕ → List ℕ
+refusal number = named (bytes "refused ") number ++ newline
+
+unfoldable pub firstLine : ℕ → ℕ → List ℕ
+firstLine sequence size = named (bytes "frame ") sequence ++ named (bytes " payload ") size ++ newline
+
+unfoldable pub wordLine : ℕ → Figures → List ℕ
+wordLine w f =
+    named (bytes "word ") w ++ named (bytes " errors ") (f .errors) ++ named (bytes " marked ") (f .marked) ++ named (bytes " bits ") (f .bits) ++ newline
+
+unfoldable pub wordLines : ℕ → List Figures → List ℕ
+wordLines depth figures = joined depth λ w. wordLine w (getD figures w noFigures)
+
+-- an accepted frame: its first line, a line for each word, and the payload
+unfoldable pub frameText : ℕ → ℕ → List Figures → List ℕ → List ℕ
+frameText depth sequence figures payload = firstLine sequence (length payload) ++ wordLines depth figures ++ hexes payload ++ newline
+
+-- ---- the input
+
+-- J, n, r and b
+abbrev pub framingOf : List ℕ → Framing
+framingOf input = record { depth = at input 0; n = at input 1; r = at input 2; b = at input 3 }
+
+unfoldable pub blank : ℕ → List ℕ
+blank n = replicate n 0
+
+-- the frame as it is received: its slots unmarked, into a fresh area
+unfoldable pub answerTo : Framing → List ℕ → ReceiveOutcome
+answerTo f slots = received f (blank (slotCount f)) slots (blank (areaSize f))
+
+-- what is said of an answer
+unfoldable pub told : ℕ → ReceiveOutcome → List ℕ
+told depth o = if eqb (o .number) 0 then frameText depth (o .sequence) (o .figures) (o .payload) else refusal (o .number)
+
+-- the whole text; under four bytes is 2 at once
+unfoldable pub spoken : List ℕ → List ℕ
+spoken input = if ltb (length input) 4 then refusal 2 else told (at input 0) (answerTo (framingOf input) (drop 4 input))
+
+-- what the call answers and leaves: how long the text is, and the text with what stood behind it
+pub record Left : Type 0 where
+  pub count : ℕ
+  pub text : List ℕ
+
+abbrev pub textLeft : ℕ → List ℕ → Left
+textLeft count text = record { count = count; text = text }
+
+unfoldable pub reported : List ℕ → List ℕ → Left
+reported input text = textLeft (length (spoken input)) (spoken input ++ drop (length (spoken input)) text)
+
+-- how many bytes of the input decide it
+unfoldable pub wantedOf : List ℕ → ℕ
+wantedOf input =
+    if ltb (length input) 4 then 4 else
+    if not (allowedFrame (framingOf input)) then 4 else
+    4 + slotCount (framingOf input) + 1

@@ -1,0 +1,94 @@
+-- What is said of a frame's answer, one law for each return of the code; and that no second answer meets a promise.
+-- Assumes nothing.
+use mathlib.Core.Path.{_≡_, refl, sym, ap, _∙_}
+use mathlib.Core.Bool.{Bool, true, false}
+use mathlib.Core.List.{List, [], _∷_}
+use Prim.Native.Nat.{ℕ, zero, suc, _+_, _-_, _≤_, _<_}
+use native.Mathlib.Nat.{not-suc-le-zero, le-of-suc-le-suc}
+use native.Mathlib.Omega.{arith}
+use borrow.Author.Tests.{lt-ltb, le-ltb, ne-eqb}
+use lib.Dec.{leb}
+use lib.ListN.{length, take, drop, length-take, length-drop}
+use lib.Seq.{length-take-le, take-all}
+use Rattle.algebra.specs.Tests.{if_then_else_, at}
+use Rattle.link.specs.Frame.{slotCount, areaSize, allowedFrame, ReceiveOutcome, received, numberOf, isDone, payloadIn, payloadOf, answered}
+use Rattle.link.specs.Frame.Limits.{FrameAllowed, slots-few, area-few}
+use Rattle.link.specs.declared.frame.Framing.{Framing}
+use Rattle.link.specs.declared.frame.Received.{Received}
+use Rattle.reader.specs.Put.{Put, put-size}
+use Rattle.reader.specs.Spoken.{refusal, frameText, framingOf, blank, answerTo, told, spoken, Left, textLeft, reported, wantedOf}
+
+-- ---- what is said of an answer
+
+module _ (depth : ℕ) (r : Received) (area : List ℕ) (o : ReceiveOutcome) (e : answered r area ≡ o) (k : ℕ) (n : k ≡ numberOf (r .verdict)) {text after : List ℕ} {at last : ℕ} where
+  pub told-refused : (k ≡ 0 → ⊥) → Put text at (refusal k) last after → Put text at (told depth o) last after
+  unfolding told
+  told-refused z p = rw (← e, ← n, ne-eqb k 0 z) p
+
+  pub told-accepted : k ≡ 0 → (payload : List ℕ) → payload ≡ payloadOf r area → Put text at (frameText depth (r .sequence) (r .figures) payload) last after
+      → Put text at (told depth o) last after
+  unfolding told
+  told-accepted z payload h p = rw (← e, ← n, z, ← h) p
+
+-- a payload is no longer than its area
+pub payload-fits : (r : Received) (area p : List ℕ) → p ≡ payloadOf r area → length p ≤ length area
+unfolding payloadOf payloadIn
+payload-fits r area p e = rw e (go (isDone (r .verdict)) (leb (r .back + 4) (length area)))
+  where
+    go : (d t : Bool) → length (if d then if t then take (r .back) (drop (length area - 4 - r .back) area) else [] else []) ≤ length area
+    go true true = simp (length-take, length-drop) (omega arith)
+    go true false = omega arith
+    go false t = omega arith
+
+-- ---- the whole text
+
+module _ (input : List ℕ) where
+  pub spoken-short : length input < 4 → refusal 2 ≡ spoken input
+  unfolding spoken
+  spoken-short l = rw (lt-ltb (length input) 4 l)
+
+  module _ (long : 4 ≤ length input) where
+    -- the code's slots are the part from 4 to the end
+    pub spoken-answer : told (at input 0) (answerTo (framingOf input) (take (length input - 4) (drop 4 input))) ≡ spoken input
+    unfolding spoken
+    spoken-answer = rw (le-ltb (length input) 4 long, take-all (length input - 4) (drop 4 input) (simp length-drop (omega arith)))
+
+    pub spoken-setting : allowedFrame (framingOf input) ≡ false → refusal 1 ≡ spoken input
+    unfolding spoken answerTo received told
+    spoken-setting a = rw (le-ltb (length input) 4 long, a)
+
+-- ---- what is left in the lent text
+
+-- zeros from the front of zeros
+pub blank-front : (n k : ℕ) → n ≤ k → take n (blank k) ≡ blank n
+unfolding blank
+blank-front zero k l = refl
+blank-front (suc n) zero l = absurd (not-suc-le-zero l)
+blank-front (suc n) (suc k) l = ap (λ (z : List ℕ). 0 ∷ z) (blank-front n k (le-of-suc-le-suc l))
+
+-- text written from the front
+pub left-behind : (input text : List ℕ) (r : ℕ) (after : List ℕ) → Put text 0 (spoken input) r after
+    → (textLeft r after ≡ reported input text) × (r ≤ length after)
+unfolding reported
+left-behind input text r after p =
+    let e : 0 + length (spoken input) ≡ length (spoken input) = omega arith in
+    (rw (p .next ∙ e, p .written, e), omega (arith, p .next, p .room, put-size p))
+
+-- a part of the work space is as long as asked
+pub part-size : (n : ℕ) (w : List ℕ) → n ≤ 4080 → length w ≡ 4080 → n ≡ length (take n w)
+part-size n w l e = sym (length-take-le n w (omega arith))
+
+-- the work space's parts are the marks and the area that are meant
+pub unmarked : (f : Framing) (slots w₁ w₂ : List ℕ) → FrameAllowed f → w₁ ≡ blank 4080 → w₂ ≡ blank 4080
+    → received f (take (slotCount f) w₁) slots (take (areaSize f) w₂) ≡ answerTo f slots
+unfolding answerTo
+unmarked f slots w₁ w₂ l e g =
+    rw (e, g, blank-front (slotCount f) 4080 (slots-few f l), blank-front (areaSize f) 4080 (area-few f l))
+
+-- ---- no second answer
+
+pub report-once : (input text : List ℕ) (r q : ℕ) (x y : List ℕ) → textLeft r x ≡ reported input text → textLeft q y ≡ reported input text → (r ≡ q) × (x ≡ y)
+report-once input text r q x y p u = (ap (λ (o : Left). o .count) (p ∙ sym u), ap (λ (o : Left). o .text) (p ∙ sym u))
+
+pub wanted-once : (head : List ℕ) (r q : ℕ) → r ≡ wantedOf head → q ≡ wantedOf head → r ≡ q
+wanted-once head r q p u = p ∙ sym u
