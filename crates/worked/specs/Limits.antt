@@ -11,7 +11,7 @@ use native.Mathlib.Omega.{arith}
 use lib.Dec.{lit≤, lit<}
 use lib.ListN.{length}
 use Rattle.field.specs.Answers.{isField}
-use Rattle.word.specs.Setting.{Allowed, allowed, allowed-yes, allowed-no, messageSize}
+use Rattle.word.specs.Setting.{Allowed, allowed, allowed-yes, allowed-no}
 use Rattle.word.specs.Code.{corrected}
 use Rattle.word.specs.Answers.{Outcome, outcome, encodeOutcome, encodes, decoded, decodedPart, refusal, unless, settle}
 use Rattle.word.specs.Answers.Laws.{decode-refused, part-setting, encode-setting, refusal-setting, decode-once, decode-part-once, encode-once}
@@ -136,3 +136,7 @@ limits = record {
         let one = line-no I M n p (length m) e in (rw one at (ap (λ (z : Ready). z .answer) (q .answer)), rw one at (q .memory), rw one at (q .held), rw one at (q .bytes), rw one at (q .marks));
   };
 }
+
+-- EN 300 421: 12 branches of unit 17 hold 1122 bytes
+pub satellite-memory : memorySize 12 17 ≡ 1122
+satellite-memory = refl

@@ -1,6 +1,6 @@
 -- Calls on the interleavers with a setting that stands: a block goes to its slots, and a run from a fresh line is what the step rule says.
 -- Assumes nothing.
-use mathlib.Core.Path.{_≡_, refl, ap, _∙_}
+use mathlib.Core.Path.{_≡_, ap, _∙_}
 use mathlib.Core.List.{List}
 use Prim.Native.Nat.{ℕ, _*_, _<_}
 use native.Mathlib.Omega.{arith}
@@ -11,9 +11,8 @@ use Rattle.interleave.specs.Block.{BlockSetting, spread, block-done}
 use Rattle.line.specs.Line.{period, sent, received, reachable}
 use Rattle.line.specs.Setting.{Setting, Fine, memorySize, lineAt, lineRefusal, line-done, receiverRefusal, receiver-done}
 use Rattle.line.specs.Steps.{blank}
-use Rattle.line.specs.Promises.{FreshSender, SendRun, FreshReceiver, ReceiveRun}
+use Rattle.line.specs.Promises.{SendRun, ReceiveRun}
 use Rattle.line.specs.Calls.{sends-run, receives-run}
-use Rattle.line.specs.declared.setting.Line.{Line}
 use Rattle.line.specs.declared.setting.Ready.{Ready}
 use Rattle.worked.specs.Gives.{Spreads, Sends, Receives}
 

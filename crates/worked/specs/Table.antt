@@ -2,7 +2,7 @@
 -- promise (`specs/Gives.antt`). The program of this crate runs the same items.
 -- Assumes nothing.
 use mathlib.Core.Path.{refl}
-use mathlib.Core.List.{List, [], _∷_}
+use mathlib.Core.List.{[], _∷_}
 use lib.Count.{ones, onesIn}
 use lib.Dec.{T, lit≤}
 use Rattle.algebra.specs.Xor.{_⊕_}
@@ -57,10 +57,9 @@ pub record WorkedTable : Type 0 where
   pub p10 : Decodes codeS (1 ∷ 3 ∷ 2 ∷ []) (1 ∷ 1 ∷ 1 ∷ []) BeyondReach (1 ∷ 3 ∷ 2 ∷ [])
   -- J = 2, words 1,3,2 and 2,6,4: slots 1,2,3,6,2,4
   pub p11 : Spreads 2 3 (1 ∷ 3 ∷ 2 ∷ 2 ∷ 6 ∷ 4 ∷ []) (1 ∷ 2 ∷ 3 ∷ 6 ∷ 2 ∷ 4 ∷ [])
-  -- I = 2, M = 2, bytes 1 to 8: out 1,0,3,0,5,2,7,4; 4 is the one n that fits
+  -- I = 2, M = 2, bytes 1 to 8: out 1,0,3,0,5,2,7,4. Fed to the receiver: 0,0,0,0,1,2,3,4, marks 1,0,1,0,0,0,0,0. (4 is the one n that fits.)
   pub p12 : Sends 2 2 4 (1 ∷ 2 ∷ 3 ∷ 4 ∷ 5 ∷ 6 ∷ 7 ∷ 8 ∷ []) (1 ∷ 0 ∷ 3 ∷ 0 ∷ 5 ∷ 2 ∷ 7 ∷ 4 ∷ [])
-  -- fed to the receiver: 0,0,0,0,1,2,3,4, marks 1,0,1,0,0,0,0,0
-  pub p12-back : Receives 2 2 4 (1 ∷ 0 ∷ 3 ∷ 0 ∷ 5 ∷ 2 ∷ 7 ∷ 4 ∷ []) (0 ∷ 0 ∷ 0 ∷ 0 ∷ 0 ∷ 0 ∷ 0 ∷ 0 ∷ []) (0 ∷ 0 ∷ 0 ∷ 0 ∷ 1 ∷ 2 ∷ 3 ∷ 4 ∷ []) (1 ∷ 0 ∷ 1 ∷ 0 ∷ 0 ∷ 0 ∷ 0 ∷ 0 ∷ [])
+      × Receives 2 2 4 (1 ∷ 0 ∷ 3 ∷ 0 ∷ 5 ∷ 2 ∷ 7 ∷ 4 ∷ []) (0 ∷ 0 ∷ 0 ∷ 0 ∷ 0 ∷ 0 ∷ 0 ∷ 0 ∷ []) (0 ∷ 0 ∷ 0 ∷ 0 ∷ 1 ∷ 2 ∷ 3 ∷ 4 ∷ []) (1 ∷ 0 ∷ 1 ∷ 0 ∷ 0 ∷ 0 ∷ 0 ∷ 0 ∷ [])
   -- last 65535, new 2: newer; last 0: 32767 newer, 32768 older
   pub p13 : Judges 65535 2 Newer × Judges 0 32767 Newer × Judges 0 32768 Older
 
@@ -89,7 +88,9 @@ worked-table = record {
   p9 = lost codeS (0 ∷ 1 ∷ 2 ∷ []) (0 ∷ 0 ∷ 0 ∷ []) refl none-near;
   p10 = lost codeS (1 ∷ 3 ∷ 2 ∷ []) (1 ∷ 1 ∷ 1 ∷ []) refl too-many;
   p11 = spreads 2 3 (1 ∷ 3 ∷ 2 ∷ 2 ∷ 6 ∷ 4 ∷ []) (record { depth = (lit≤ tt, lit≤ tt); size = (lit≤ tt, lit≤ tt) }) refl;
-  p12 = sends 2 2 4 line224 (1 ∷ 2 ∷ 3 ∷ 4 ∷ 5 ∷ 6 ∷ 7 ∷ 8 ∷ []);
-  p12-back = receives 2 2 4 line224 (1 ∷ 0 ∷ 3 ∷ 0 ∷ 5 ∷ 2 ∷ 7 ∷ 4 ∷ []) (0 ∷ 0 ∷ 0 ∷ 0 ∷ 0 ∷ 0 ∷ 0 ∷ 0 ∷ []) refl (marks-same 8 0 (lit≤ tt));
+  p12 = (
+    sends 2 2 4 line224 (1 ∷ 2 ∷ 3 ∷ 4 ∷ 5 ∷ 6 ∷ 7 ∷ 8 ∷ []),
+    receives 2 2 4 line224 (1 ∷ 0 ∷ 3 ∷ 0 ∷ 5 ∷ 2 ∷ 7 ∷ 4 ∷ []) (0 ∷ 0 ∷ 0 ∷ 0 ∷ 0 ∷ 0 ∷ 0 ∷ 0 ∷ []) refl (marks-same 8 0 (lit≤ tt)),
+  );
   p13 = (judges 65535 2 Newer refl, judges 0 32767 Newer refl, judges 0 32768 Older refl);
 }

@@ -5,8 +5,7 @@ use crate::expect::encodes_front;
 use crate::expect::refused;
 use crate::expect::setting;
 use crate::say::say;
-use crate::slots::unit_16;
-use crate::slots::unit_17;
+use crate::slots::fresh_answers;
 
 // What is refused 1.
 pub fn say_settings() {
@@ -23,9 +22,9 @@ pub fn say_settings() {
     // Catches zeros that start beyond a^1.
     say(b"b 2 refused 1", refuses_setting(3, 7, 4, 2));
     // Catches a line of EN 300 421 that is refused.
-    say(b"M I = n stands", unit_17());
-    // Catches a unit with which two bytes of a word may be sent fewer than I slots apart.
-    say(b"M I = n - I refused 1", unit_16());
+    say(b"M I = n stands", fresh_answers(204, 0, 0));
+    // Catches an n for which two bytes of a word may be sent fewer than I slots apart.
+    say(b"M I = n - I refused 1", fresh_answers(216, 1, 9));
 }
 
 // What is refused 2 and 3, and the order of the checks.

@@ -14,17 +14,32 @@ use word::Setting;
 // What that word bears.
 pub fn say_reach() {
     // Catches a setting of 255 that is refused, and a codeword that is changed.
-    say(b"n 255 stands", returns(0, 0, done(0, 0, 0)));
+    say(b"n 255 stands", word_answers(0, 0, done(0, 0, 0), sent()));
     // Catches a decoder that stops short of r / 2 wrong symbols, check symbols among them.
-    say(b"8 wrong come back", returns(8, 0, done(8, 0, 24)));
+    say(
+        b"8 wrong come back",
+        word_answers(8, 0, done(8, 0, 24), sent()),
+    );
     // Catches a word beyond reach that is accepted, or written before it is refused. No codeword is within 8 places of this one.
-    say(b"9 wrong refused 4", nine_wrong());
+    say(
+        b"9 wrong refused 4",
+        word_answers(9, 0, refused(4), received(9)),
+    );
     // Catches a decoder that stops short of r marked symbols.
-    say(b"16 marked come back", returns(16, 16, done(0, 16, 48)));
+    say(
+        b"16 marked come back",
+        word_answers(16, 16, done(0, 16, 48), sent()),
+    );
     // Catches a part that gets anything but the corrected word's message.
-    say(b"part gets the message", part());
+    say(
+        b"part gets the message",
+        part_answers(8, done(8, 0, 24), message()),
+    );
     // Catches a part that is written though the word is refused.
-    say(b"part refused 4 stays", part_refused());
+    say(
+        b"part refused 4 stays",
+        part_answers(9, refused(4), [9; 239]),
+    );
     // Catches a part that is not of k symbols and is filled in front, or beyond its end.
     say(b"short part refused 2", short_part());
 }
@@ -86,49 +101,28 @@ fn marked(count: usize) -> [u8; 255]
     struck([0; 255], count, 1)
 }
 
-// Whether the codeword comes back from so many wrong and so many marked symbols with these figures.
-fn returns(wrong: usize, marks: usize, wanted: Outcome) -> bool
+// Whether the codeword with so many wrong and so many marked symbols has this outcome, and is this word afterwards.
+fn word_answers(wrong: usize, marks: usize, wanted: Outcome, after: [u8; 255]) -> bool
     requires { ⌜ (wrong ≤ 16) × (marks ≤ 16) ⌝ }
 {
     let mut symbols = received(wrong);
     let marks = marked(marks);
-    let after = sent();
     decodes(longest(), &mut symbols, &marks, wanted, &after)
 }
 
-fn nine_wrong() -> bool {
-    let mut symbols = received(9);
-    let marks = marked(0);
-    let after = received(9);
-    decodes(longest(), &mut symbols, &marks, refused(4), &after)
-}
-
-fn part() -> bool {
-    let symbols = received(8);
-    let marks = marked(0);
+// The same of decoding into a part, unmarked.
+fn part_answers(wrong: usize, wanted: Outcome, after: [u8; 239]) -> bool
+    requires { ⌜ wrong ≤ 16 ⌝ }
+{
+    let symbols = received(wrong);
+    let marks = [0u8; 255];
     let mut part = [9u8; 239];
-    let after = message();
-    decodes_part(
-        longest(),
-        &symbols,
-        &marks,
-        &mut part,
-        done(8, 0, 24),
-        &after,
-    )
-}
-
-fn part_refused() -> bool {
-    let symbols = received(9);
-    let marks = marked(0);
-    let mut part = [9u8; 239];
-    let after = [9u8; 239];
-    decodes_part(longest(), &symbols, &marks, &mut part, refused(4), &after)
+    decodes_part(longest(), &symbols, &marks, &mut part, wanted, &after)
 }
 
 fn short_part() -> bool {
     let symbols = sent();
-    let marks = marked(0);
+    let marks = [0u8; 255];
     let mut part = [9u8; 238];
     let after = [9u8; 238];
     decodes_part(longest(), &symbols, &marks, &mut part, refused(2), &after)
