@@ -7,7 +7,7 @@ use crate::expect::setting;
 use crate::say::say;
 use crate::slots::fresh_answers;
 
-// What is refused 1.
+// What a setting is refused for, and a line's setting that stands.
 pub fn say_settings() {
     // Catches a word with two places at one power of a.
     say(b"n 256 refused 1", refuses_setting(8, 256, 16, 0));
@@ -27,30 +27,43 @@ pub fn say_settings() {
     say(b"M I = n - I refused 1", fresh_answers(216, 1, 9));
 }
 
-// What is refused 2 and 3, and the order of the checks.
-pub fn say_buffers() {
+// What is refused 2 and 3 of a received word, and the order of the checks.
+pub fn say_words() {
     let sent = [7u8, 3, 2, 5, 6, 4, 1];
+    let large = [7u8, 3, 2, 5, 6, 8, 1];
     let unmarked = [0u8; 7];
-    // Catches a word taken as longer than it is, and marks that are.
+    let marks = [0u8, 0, 2, 0, 0, 0, 0];
+    // Catches a word taken as longer than it is.
     say(
         b"short word refused 2",
         refuses_word(3, sent, 6, unmarked, 7, 2),
     );
+    // Catches marks taken as longer than they are.
     say(
         b"short marks refused 2",
         refuses_word(3, sent, 7, unmarked, 6, 2),
     );
     // Catches a symbol that is no element, which the tables of m = 3 do not hold.
-    let large = [7u8, 3, 2, 5, 6, 8, 1];
     say(
         b"symbol 8 refused 3",
         refuses_word(3, large, 7, unmarked, 7, 3),
     );
     // Catches a mark of 2 counted as two marks, or as one.
+    say(b"mark 2 refused 3", refuses_word(3, sent, 7, marks, 7, 3));
+    // Catches a length or a symbol that is looked at before the setting: all three are wrong here.
     say(
-        b"mark 2 refused 3",
-        refuses_word(3, sent, 7, [0, 0, 2, 0, 0, 0, 0], 7, 3),
+        b"setting first refused 1",
+        refuses_word(4, large, 6, unmarked, 7, 1),
     );
+    // Catches a symbol that is looked at before the length: both are wrong here.
+    say(
+        b"length second refused 2",
+        refuses_word(3, large, 6, unmarked, 7, 2),
+    );
+}
+
+// The same of a message that is to be encoded.
+pub fn say_messages() {
     // Catches an encoder that takes a message for longer than it is.
     say(
         b"short message refused 2",
@@ -62,16 +75,6 @@ pub fn say_buffers() {
     say(
         b"message symbol 8 refused 3",
         refuses_message([7, 8, 2], 3, 7, 3),
-    );
-    // Catches a length or a symbol that is looked at before the setting: all three are wrong here.
-    say(
-        b"setting first refused 1",
-        refuses_word(4, large, 6, unmarked, 7, 1),
-    );
-    // Catches a symbol that is looked at before the length: both are wrong here.
-    say(
-        b"length second refused 2",
-        refuses_word(3, large, 6, unmarked, 7, 2),
     );
 }
 

@@ -13,6 +13,7 @@ fn main() {
     table::say_code();
     table::say_link();
     limits::say_settings();
-    limits::say_buffers();
+    limits::say_words();
+    limits::say_messages();
     reach::say_reach();
 }
