@@ -22,9 +22,9 @@ pub fn say_settings() {
     // Catches zeros that start beyond a^1.
     say(b"b 2 refused 1", refuses_setting(3, 7, 4, 2));
     // Catches a line of EN 300 421 that is refused.
-    say(b"M I = n stands", fresh_answers(204, 0, 0));
+    say(b"M I = n stands", fresh_answers(204, 0));
     // Catches an n for which two bytes of a word may be sent fewer than I slots apart.
-    say(b"M I = n - I refused 1", fresh_answers(216, 1, 9));
+    say(b"M I = n - I refused 1", fresh_answers(216, 1));
 }
 
 // What is refused 2 and 3 of a received word, and the order of the checks.
