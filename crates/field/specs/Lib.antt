@@ -7,4 +7,3 @@ pub mod Gf8
 pub mod Elements
 pub mod Answers
 pub mod Once
-pub mod Worked

@@ -1,4 +1,3 @@
 pub mod Block
 pub mod Runs
 pub mod Damage
-pub mod Worked

@@ -10,7 +10,6 @@ use Rattle.record.specs.declared.Kind.the-variants.{Newer, Repeat, Older
 pub mod Laws
 pub mod Kinds
 pub mod History
-pub mod Worked
 
 -- the new number minus the last, wrapped at 65536
 abbrev pub ahead : ℕ → ℕ → ℕ

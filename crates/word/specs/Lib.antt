@@ -5,7 +5,6 @@ pub mod Search
 pub mod Code
 pub mod Answers
 pub mod Means
-pub mod Worked
 pub mod Distance
 pub mod Completion
 pub mod Solution

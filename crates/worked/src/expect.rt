@@ -1,10 +1,18 @@
-// Calls of the library held to the answer that the paper gives.
+// Calls of the word code held to the answer that the paper gives.
+ghost use Prim.Native.Nat.{_≤_};
+ghost use lib.ListN.{length};
 use crate::same::same;
-use field::Element;
 use word::Decoded;
 use word::Encoded;
-use word::Figures;
 use word::Setting;
+
+// What the paper says of a received word: the number answered, with e, f and bits.
+pub struct Outcome {
+    pub number: u8,
+    pub errors: u16,
+    pub marked: u16,
+    pub bits: u16,
+}
 
 // A setting of the word code, in the paper's order.
 pub fn setting(m: usize, n: usize, r: usize, b: usize) -> Setting {
@@ -16,21 +24,23 @@ pub fn setting(m: usize, n: usize, r: usize, b: usize) -> Setting {
     }
 }
 
-// The figures of an accepted word, in the paper's order.
-pub fn figures(e: u16, f: u16, bits: u16) -> Figures {
-    Figures {
+// Accepted, with e, f and bits.
+pub fn done(e: u16, f: u16, bits: u16) -> Outcome {
+    Outcome {
+        number: 0,
         errors: e,
         marked: f,
         bits: bits,
     }
 }
 
-// Whether a product is z.
-pub fn multiplies(m: usize, x: u8, y: u8, z: u8) -> bool {
-    match field::product(m, x, y) {
-        Element::Is(xy) => xy == z,
-        Element::BadField => false,
-        Element::BadSymbol => false,
+// Refused with this number; the figures are then 0.
+pub fn refused(number: u8) -> Outcome {
+    Outcome {
+        number: number,
+        errors: 0,
+        marked: 0,
+        bits: 0,
     }
 }
 
@@ -44,19 +54,22 @@ fn encoded_number(answer: Encoded) -> u8 {
     }
 }
 
-// The paper's number for what decoding answers.
-fn decoded_number(answer: Decoded) -> u8 {
+// The paper's number and figures for what decoding answers.
+fn found(answer: Decoded) -> Outcome {
     match answer {
-        Decoded::Done(_) => 0,
-        Decoded::BadSetting => 1,
-        Decoded::BadLength => 2,
-        Decoded::BadSymbol => 3,
-        Decoded::BeyondReach => 4,
+        Decoded::Done(figures) => done(figures.errors, figures.marked, figures.bits),
+        Decoded::BadSetting => refused(1),
+        Decoded::BadLength => refused(2),
+        Decoded::BadSymbol => refused(3),
+        Decoded::BeyondReach => refused(4),
     }
 }
 
-// Whether two figures are the same.
-fn agrees(a: Figures, b: Figures) -> bool {
+// Whether two outcomes are the same.
+fn agrees(a: Outcome, b: Outcome) -> bool {
+    if a.number != b.number {
+        return false;
+    }
     if a.errors != b.errors {
         return false;
     }
@@ -64,17 +77,6 @@ fn agrees(a: Figures, b: Figures) -> bool {
         return false;
     }
     a.bits == b.bits
-}
-
-// Whether decoding was done, with these figures.
-fn is_done(answer: Decoded, wanted: Figures) -> bool {
-    match answer {
-        Decoded::Done(found) => agrees(found, wanted),
-        Decoded::BadSetting => false,
-        Decoded::BadLength => false,
-        Decoded::BadSymbol => false,
-        Decoded::BeyondReach => false,
-    }
 }
 
 // Whether encoding answers this number and leaves these symbols in the word.
@@ -85,54 +87,61 @@ pub fn encodes(s: Setting, message: &[u8], symbols: &mut [u8], number: u8, after
     same(symbols, after)
 }
 
-// Whether decoding accepts the word with these figures and leaves these symbols in it.
+// Whether decoding has this outcome and leaves these symbols in the word.
 pub fn decodes(
     s: Setting,
     symbols: &mut [u8],
     marks: &[u8],
-    wanted: Figures,
+    wanted: Outcome,
     after: &[u8],
 ) -> bool {
-    if !is_done(word::decode(s, symbols, marks), wanted) {
+    if !agrees(found(word::decode(s, symbols, marks)), wanted) {
         return false;
     }
     same(symbols, after)
 }
 
-// Whether decoding refuses the word with this number and leaves these symbols in it.
-pub fn refuses(s: Setting, symbols: &mut [u8], marks: &[u8], number: u8, after: &[u8]) -> bool {
-    if decoded_number(word::decode(s, symbols, marks)) != number {
-        return false;
-    }
-    same(symbols, after)
-}
-
-// Whether decoding into a part accepts the word with these figures and leaves these symbols in the part.
+// Whether decoding into a part has this outcome and leaves these symbols in the part.
 pub fn decodes_part(
     s: Setting,
     symbols: &[u8],
     marks: &[u8],
     part: &mut [u8],
-    wanted: Figures,
+    wanted: Outcome,
     after: &[u8],
 ) -> bool {
-    if !is_done(word::decode_part(s, symbols, marks, part), wanted) {
+    if !agrees(found(word::decode_part(s, symbols, marks, part)), wanted) {
         return false;
     }
     same(part, after)
 }
 
-// Whether decoding into a part refuses the word with this number and leaves these symbols in the part.
-pub fn refuses_part(
+// `encodes` with the first k symbols of a message and the first n of a word.
+pub fn encodes_front(
     s: Setting,
-    symbols: &[u8],
-    marks: &[u8],
-    part: &mut [u8],
+    message: &[u8],
+    k: usize,
+    symbols: &mut [u8],
+    n: usize,
     number: u8,
     after: &[u8],
-) -> bool {
-    if decoded_number(word::decode_part(s, symbols, marks, part)) != number {
-        return false;
-    }
-    same(part, after)
+) -> bool
+    requires { ⌜ (k ≤ length (now message)) × (n ≤ length (now symbols)) × (n ≤ length (now after)) ⌝ }
+{
+    encodes(s, &message[..k], &mut symbols[..n], number, &after[..n])
+}
+
+// `decodes` with the first n symbols of a word and the first f of its marks.
+pub fn decodes_front(
+    s: Setting,
+    symbols: &mut [u8],
+    n: usize,
+    marks: &[u8],
+    f: usize,
+    wanted: Outcome,
+    after: &[u8],
+) -> bool
+    requires { ⌜ (n ≤ length (now symbols)) × (f ≤ length (now marks)) × (n ≤ length (now after)) ⌝ }
+{
+    decodes(s, &mut symbols[..n], &marks[..f], wanted, &after[..n])
 }

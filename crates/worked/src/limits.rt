@@ -1,139 +1,126 @@
-// The limits of a setting, a length and a symbol: what encoding and decoding refuse with 1, 2 and 3, and leave as it was.
+// The limits of a setting, a length and a symbol: what the calls refuse with 1, 2 and 3, and leave as it was.
 ghost use Prim.Native.Nat.{_≤_};
-use crate::expect::encodes;
-use crate::expect::refuses;
+use crate::expect::decodes_front;
+use crate::expect::encodes_front;
+use crate::expect::refused;
 use crate::expect::setting;
-use word::Setting;
+use crate::say::say;
+use crate::slots::fresh_answers;
 
-// Whether decoding refuses a setting with 1, where lengths and symbols fit it.
-fn decode_refuses(s: Setting, n: usize) -> bool
-    requires { ⌜ n ≤ 256 ⌝ }
-{
-    let mut symbols = [1u8; 256];
-    let marks = [0u8; 256];
-    let after = [1u8; 256];
-    refuses(s, &mut symbols[..n], &marks[..n], 1, &after[..n])
+// What a setting is refused for, and a line's setting that stands.
+pub fn say_settings() {
+    // Catches a word with two places at one power of a.
+    say(b"n 256 refused 1", refuses_setting(8, 256, 16, 0));
+    // Catches the limit of m = 8 used at m = 3.
+    say(b"n 8 at m 3 refused 1", refuses_setting(3, 8, 4, 1));
+    // Catches a least r of 1, by which no symbol could be mended.
+    say(b"r 1 refused 1", refuses_setting(8, 7, 1, 0));
+    // Catches an r for which the sixteen check symbols that are kept are too few.
+    say(b"r 17 refused 1", refuses_setting(8, 255, 17, 0));
+    // Catches a field between the two that there are.
+    say(b"m 4 refused 1", refuses_setting(4, 7, 4, 1));
+    // Catches zeros that start beyond a^1.
+    say(b"b 2 refused 1", refuses_setting(3, 7, 4, 2));
+    // Catches a line of EN 300 421 that is refused.
+    say(b"M I = n stands", fresh_answers(204, 0));
+    // Catches an n for which two bytes of a word may be sent fewer than I slots apart.
+    say(b"M I = n - I refused 1", fresh_answers(216, 1));
 }
 
-// Whether encoding refuses a setting with 1, where lengths and symbols fit it.
-fn encode_refuses(s: Setting, n: usize, k: usize) -> bool
-    requires { ⌜ (n ≤ 256) × (k ≤ 256) ⌝ }
-{
-    let message = [1u8; 256];
-    let mut symbols = [1u8; 256];
-    let after = [1u8; 256];
-    encodes(s, &message[..k], &mut symbols[..n], 1, &after[..n])
+// What is refused 2 and 3 of a received word, and the order of the checks.
+pub fn say_words() {
+    let sent = [7u8, 3, 2, 5, 6, 4, 1];
+    let large = [7u8, 3, 2, 5, 6, 8, 1];
+    let unmarked = [0u8; 7];
+    let marks = [0u8, 0, 2, 0, 0, 0, 0];
+    // Catches a word taken as longer than it is.
+    say(
+        b"short word refused 2",
+        refuses_word(3, sent, 6, unmarked, 7, 2),
+    );
+    // Catches marks taken as longer than they are.
+    say(
+        b"short marks refused 2",
+        refuses_word(3, sent, 7, unmarked, 6, 2),
+    );
+    // Catches a symbol that is no element, which the tables of m = 3 do not hold.
+    say(
+        b"symbol 8 refused 3",
+        refuses_word(3, large, 7, unmarked, 7, 3),
+    );
+    // Catches a mark of 2 counted as two marks, or as one.
+    say(b"mark 2 refused 3", refuses_word(3, sent, 7, marks, 7, 3));
+    // Catches a length or a symbol that is looked at before the setting: all three are wrong here.
+    say(
+        b"setting first refused 1",
+        refuses_word(4, large, 6, unmarked, 7, 1),
+    );
+    // Catches a symbol that is looked at before the length: both are wrong here.
+    say(
+        b"length second refused 2",
+        refuses_word(3, large, 6, unmarked, 7, 2),
+    );
 }
 
-// Whether both calls do.
+// The same of a message that is to be encoded.
+pub fn say_messages() {
+    // Catches an encoder that takes a message for longer than it is.
+    say(
+        b"short message refused 2",
+        refuses_message([7, 3, 2], 2, 7, 2),
+    );
+    // Catches an encoder that writes beyond a word, or a codeword without its end.
+    say(b"short room refused 2", refuses_message([7, 3, 2], 3, 6, 2));
+    // Catches an encoder that takes a symbol that is no element.
+    say(
+        b"message symbol 8 refused 3",
+        refuses_message([7, 8, 2], 3, 7, 3),
+    );
+}
+
+// Whether decoding and encoding refuse a setting with 1, where lengths and symbols fit it.
 fn refuses_setting(m: usize, n: usize, r: usize, b: usize) -> bool
     requires { ⌜ (n ≤ 256) × (r ≤ n) ⌝ }
 {
     let s = setting(m, n, r, b);
-    if !decode_refuses(s, n) {
+    let mut symbols = [1u8; 256];
+    let zeros = [0u8; 256];
+    let ones = [1u8; 256];
+    if !decodes_front(s, &mut symbols, n, &zeros, n, refused(1), &ones) {
         return false;
     }
-    encode_refuses(s, n, n - r)
+    encodes_front(s, &ones, n - r, &mut symbols, n, 1, &ones)
 }
 
-// Catches a word with two places at one power of a.
-pub fn n_256() -> bool {
-    refuses_setting(8, 256, 16, 0)
+// Whether 002's code over m refuses the first n symbols of a word with the first f of its marks.
+fn refuses_word(m: usize, word: [u8; 7], n: usize, marks: [u8; 7], f: usize, number: u8) -> bool
+    requires { ⌜ (n ≤ 7) × (f ≤ 7) ⌝ }
+{
+    let mut symbols = word;
+    decodes_front(
+        setting(m, 7, 4, 1),
+        &mut symbols,
+        n,
+        &marks,
+        f,
+        refused(number),
+        &word,
+    )
 }
 
-// Catches the limit of m = 8 used at m = 3.
-pub fn n_8_at_m_3() -> bool {
-    refuses_setting(3, 8, 4, 1)
-}
-
-// Catches a least r of 1, by which no symbol could be mended.
-pub fn r_1() -> bool {
-    refuses_setting(8, 7, 1, 0)
-}
-
-// Catches an r for which the sixteen check symbols that are kept are too few.
-pub fn r_17() -> bool {
-    refuses_setting(8, 255, 17, 0)
-}
-
-// Catches a field between the two that there are.
-pub fn m_4() -> bool {
-    refuses_setting(4, 7, 4, 1)
-}
-
-// Catches zeros that start beyond a^1.
-pub fn b_2() -> bool {
-    refuses_setting(3, 7, 4, 2)
-}
-
-// Catches a word taken as longer than it is.
-pub fn short_word() -> bool {
-    let mut symbols = [7u8, 3, 2, 5, 6, 4];
-    let marks = [0u8; 7];
-    let after = [7u8, 3, 2, 5, 6, 4];
-    refuses(setting(3, 7, 4, 1), &mut symbols, &marks, 2, &after)
-}
-
-// Catches marks taken as longer than they are.
-pub fn short_marks() -> bool {
-    let mut symbols = [7u8, 3, 5, 1, 6, 4, 1];
-    let marks = [0u8; 6];
-    let after = [7u8, 3, 5, 1, 6, 4, 1];
-    refuses(setting(3, 7, 4, 1), &mut symbols, &marks, 2, &after)
-}
-
-// Catches a symbol that is no element, which the tables of m = 3 do not hold.
-pub fn symbol_8() -> bool {
-    let mut symbols = [7u8, 3, 2, 5, 6, 4, 8];
-    let marks = [0u8; 7];
-    let after = [7u8, 3, 2, 5, 6, 4, 8];
-    refuses(setting(3, 7, 4, 1), &mut symbols, &marks, 3, &after)
-}
-
-// Catches a mark of 2 counted as two marks, or as one.
-pub fn mark_2() -> bool {
-    let mut symbols = [7u8, 3, 5, 1, 6, 4, 1];
-    let marks = [0u8, 0, 2, 0, 0, 0, 0];
-    let after = [7u8, 3, 5, 1, 6, 4, 1];
-    refuses(setting(3, 7, 4, 1), &mut symbols, &marks, 3, &after)
-}
-
-// Catches an encoder that takes a message for longer than it is.
-pub fn short_message() -> bool {
-    let message = [7u8, 3];
+// Whether 002's code refuses the first k symbols of a message for a word of n symbols.
+fn refuses_message(message: [u8; 3], k: usize, n: usize, number: u8) -> bool
+    requires { ⌜ (k ≤ 3) × (n ≤ 7) ⌝ }
+{
     let mut symbols = [6u8; 7];
     let after = [6u8; 7];
-    encodes(setting(3, 7, 4, 1), &message, &mut symbols, 2, &after)
-}
-
-// Catches an encoder that writes beyond a word, or a codeword without its end.
-pub fn short_room() -> bool {
-    let message = [7u8, 3, 2];
-    let mut symbols = [6u8; 6];
-    let after = [6u8; 6];
-    encodes(setting(3, 7, 4, 1), &message, &mut symbols, 2, &after)
-}
-
-// Catches an encoder that takes a symbol that is no element.
-pub fn message_8() -> bool {
-    let message = [7u8, 8, 2];
-    let mut symbols = [6u8; 7];
-    let after = [6u8; 7];
-    encodes(setting(3, 7, 4, 1), &message, &mut symbols, 3, &after)
-}
-
-// Catches a length or a symbol that is looked at before the setting: all three are wrong here.
-pub fn setting_first() -> bool {
-    let mut symbols = [7u8, 3, 2, 5, 6, 8];
-    let marks = [0u8; 7];
-    let after = [7u8, 3, 2, 5, 6, 8];
-    refuses(setting(4, 7, 4, 1), &mut symbols, &marks, 1, &after)
-}
-
-// Catches a symbol that is looked at before the length: both are wrong here.
-pub fn length_second() -> bool {
-    let mut symbols = [7u8, 3, 2, 5, 6, 8];
-    let marks = [0u8; 7];
-    let after = [7u8, 3, 2, 5, 6, 8];
-    refuses(setting(3, 7, 4, 1), &mut symbols, &marks, 2, &after)
+    encodes_front(
+        setting(3, 7, 4, 1),
+        &message,
+        k,
+        &mut symbols,
+        n,
+        number,
+        &after,
+    )
 }

@@ -2,13 +2,47 @@
 ghost use mathlib.Core.Path.{_≡_};
 ghost use Prim.Native.Nat.{_≤_};
 ghost use lib.ListN.{length};
+use crate::expect::Outcome;
 use crate::expect::decodes;
 use crate::expect::decodes_part;
-use crate::expect::figures;
-use crate::expect::refuses;
-use crate::expect::refuses_part;
+use crate::expect::done;
+use crate::expect::refused;
 use crate::expect::setting;
+use crate::say::say;
 use word::Setting;
+
+// What that word bears.
+pub fn say_reach() {
+    // Catches a setting of 255 that is refused, and a codeword that is changed.
+    say(b"n 255 stands", word_answers(0, 0, done(0, 0, 0), sent()));
+    // Catches a decoder that stops short of r / 2 wrong symbols, check symbols among them.
+    say(
+        b"8 wrong come back",
+        word_answers(8, 0, done(8, 0, 24), sent()),
+    );
+    // Catches a word beyond reach that is accepted, or written before it is refused. No codeword is within 8 places of this one.
+    say(
+        b"9 wrong refused 4",
+        word_answers(9, 0, refused(4), received(9)),
+    );
+    // Catches a decoder that stops short of r marked symbols.
+    say(
+        b"16 marked come back",
+        word_answers(16, 16, done(0, 16, 48), sent()),
+    );
+    // Catches a part that gets anything but the corrected word's message.
+    say(
+        b"part gets the message",
+        part_answers(8, done(8, 0, 24), message()),
+    );
+    // Catches a part that is written though the word is refused.
+    say(
+        b"part refused 4 stays",
+        part_answers(9, refused(4), [9; 239]),
+    );
+    // Catches a part that is not of k symbols and is filled in front, or beyond its end.
+    say(b"short part refused 2", short_part());
+}
 
 fn longest() -> Setting {
     setting(8, 255, 16, 0)
@@ -67,68 +101,29 @@ fn marked(count: usize) -> [u8; 255]
     struck([0; 255], count, 1)
 }
 
-// Catches a setting of 255 that is refused, and a codeword that is changed.
-pub fn n_255() -> bool {
-    let mut symbols = sent();
-    let marks = marked(0);
-    let after = sent();
-    decodes(longest(), &mut symbols, &marks, figures(0, 0, 0), &after)
+// Whether the codeword with so many wrong and so many marked symbols has this outcome, and is this word afterwards.
+fn word_answers(wrong: usize, marks: usize, wanted: Outcome, after: [u8; 255]) -> bool
+    requires { ⌜ (wrong ≤ 16) × (marks ≤ 16) ⌝ }
+{
+    let mut symbols = received(wrong);
+    let marks = marked(marks);
+    decodes(longest(), &mut symbols, &marks, wanted, &after)
 }
 
-// Catches a decoder that stops short of r / 2 wrong symbols, check symbols among them.
-pub fn eight_wrong() -> bool {
-    let mut symbols = received(8);
-    let marks = marked(0);
-    let after = sent();
-    decodes(longest(), &mut symbols, &marks, figures(8, 0, 24), &after)
-}
-
-// Catches a word beyond reach that is accepted, or written before it is refused. No codeword is within 8 places of this one.
-pub fn nine_wrong() -> bool {
-    let mut symbols = received(9);
-    let marks = marked(0);
-    let after = received(9);
-    refuses(longest(), &mut symbols, &marks, 4, &after)
-}
-
-// Catches a decoder that stops short of r marked symbols.
-pub fn sixteen_marked() -> bool {
-    let mut symbols = received(16);
-    let marks = marked(16);
-    let after = sent();
-    decodes(longest(), &mut symbols, &marks, figures(0, 16, 48), &after)
-}
-
-// Catches a part that gets anything but the corrected word's message.
-pub fn part() -> bool {
-    let symbols = received(8);
-    let marks = marked(0);
+// The same of decoding into a part, unmarked.
+fn part_answers(wrong: usize, wanted: Outcome, after: [u8; 239]) -> bool
+    requires { ⌜ wrong ≤ 16 ⌝ }
+{
+    let symbols = received(wrong);
+    let marks = [0u8; 255];
     let mut part = [9u8; 239];
-    let after = message();
-    decodes_part(
-        longest(),
-        &symbols,
-        &marks,
-        &mut part,
-        figures(8, 0, 24),
-        &after,
-    )
+    decodes_part(longest(), &symbols, &marks, &mut part, wanted, &after)
 }
 
-// Catches a part that is written though the word is refused.
-pub fn part_refused() -> bool {
-    let symbols = received(9);
-    let marks = marked(0);
-    let mut part = [9u8; 239];
-    let after = [9u8; 239];
-    refuses_part(longest(), &symbols, &marks, &mut part, 4, &after)
-}
-
-// Catches a part that is not of k symbols and is filled in front, or beyond its end.
-pub fn short_part() -> bool {
+fn short_part() -> bool {
     let symbols = sent();
-    let marks = marked(0);
+    let marks = [0u8; 255];
     let mut part = [9u8; 238];
     let after = [9u8; 238];
-    refuses_part(longest(), &symbols, &marks, &mut part, 2, &after)
+    decodes_part(longest(), &symbols, &marks, &mut part, refused(2), &after)
 }

@@ -1,25 +1,19 @@
--- `worked::limits::encode_refuses` meets its contract: each part is the front of an array of 256.
+-- `worked::expect::encodes_front` meets its contract: the front of a buffer has the length asked for, where the buffer has as many bytes.
 -- Assumes nothing.
 use mathlib.Core.Path.{sym}
 use borrow.Author.Needs.{needs}
 use lib.Seq.{length-take-le}
-use Rattle.worked.proofs.limits.encode_refuses.Statement.{statement}
-use Rattle.worked.proofs.limits.encode_refuses.Tie as tie
-
-array-share-prefix-message : tie.Need-array-share-prefix-message
-array-share-prefix-message c = search needs
+use Rattle.worked.proofs.expect.encodes_front.Statement.{statement}
+use Rattle.worked.proofs.expect.encodes_front.Tie as tie
 
 slice-aggregate-encodes : tie.Need-slice-aggregate-encodes
 slice-aggregate-encodes c = sym (length-take-le _ _ (search needs))
 
-array-borrow-prefix-symbols : tie.Need-array-borrow-prefix-symbols
-array-borrow-prefix-symbols c = search needs
+slice-relend-prefix-encodes : tie.Need-slice-relend-prefix-encodes
+slice-relend-prefix-encodes c = search needs
 
 slice-aggregate-encodes-2 : tie.Need-slice-aggregate-encodes-2
 slice-aggregate-encodes-2 c = sym (length-take-le _ _ (search needs))
-
-array-share-prefix-after : tie.Need-array-share-prefix-after
-array-share-prefix-after c = search needs
 
 slice-aggregate-encodes-3 : tie.Need-slice-aggregate-encodes-3
 slice-aggregate-encodes-3 c = sym (length-take-le _ _ (search needs))
@@ -27,18 +21,20 @@ slice-aggregate-encodes-3 c = sym (length-take-le _ _ (search needs))
 encodes-requires : tie.Need-encodes-requires
 encodes-requires c κs = search needs
 
+same-length : tie.Need-same-length
+same-length c = search needs
+
 returns : tie.Need-returns
 returns c = search needs
 
-pub encode-refuses-spec : {M : Type 1} → statement M
-encode-refuses-spec =
+pub encodes-front-spec : {M : Type 1} → statement M
+encodes-front-spec =
     tie.close
     (tie.spec
-    array-share-prefix-message
     slice-aggregate-encodes
-    array-borrow-prefix-symbols
+    slice-relend-prefix-encodes
     slice-aggregate-encodes-2
-    array-share-prefix-after
     slice-aggregate-encodes-3
     encodes-requires
+    same-length
     returns)

@@ -1,0 +1,142 @@
+-- Document 01, "Worked table", Limits: of every call that takes such a setting, whatever else it is handed.
+-- Assumes nothing.
+use mathlib.Core.Path.{_≡_, refl, sym, ap, _∙_}
+use mathlib.Core.Bool.{Bool, true, false}
+use mathlib.Core.List.{List}
+use mathlib.Core.Logic.{_≢_}
+use mathlib.Core.Option.{Option, some, none}
+use Prim.Native.Nat.{ℕ, _+_, _*_, _≤_}
+use native.Mathlib.Nat.{mul-mod-left}
+use native.Mathlib.Omega.{arith}
+use lib.Dec.{lit≤, lit<}
+use lib.ListN.{length}
+use Rattle.field.specs.Answers.{isField}
+use Rattle.word.specs.Setting.{Allowed, allowed, allowed-yes, allowed-no}
+use Rattle.word.specs.Code.{corrected}
+use Rattle.word.specs.Answers.{Outcome, outcome, encodeOutcome, encodes, decoded, decodedPart, refusal, unless, settle}
+use Rattle.word.specs.Answers.Laws.{decode-refused, part-setting, encode-setting, refusal-setting, decode-once, decode-part-once, encode-once}
+use Rattle.word.specs.declared.Setting.{Setting}
+use Rattle.word.specs.declared.Encoded.{Encoded}
+use Rattle.word.specs.declared.Encoded.the-variants as E
+use Rattle.word.specs.declared.Decoded.{Decoded}
+use Rattle.word.specs.declared.Decoded.the-variants.{BadSetting}
+use Rattle.rings.specs.Refusal.{need-no}
+use Rattle.line.specs.Setting as line
+use Rattle.line.specs.Setting.{memorySize, lineAt, lineRefusal, receiverRefusal, receiveRefusal, runRefusal}
+use Rattle.line.specs.Steps.{sendStep, sendMemory, receiveStep, receiveMemory, receiveMarks}
+use Rattle.line.specs.Promises.{FreshSender, FreshReceiver, SendStep, SendRun, ReceiveStep, ReceiveRun}
+use Rattle.line.specs.declared.setting.Ready.{Ready}
+use Rattle.line.specs.declared.sender.Sent.{Sent}
+use Rattle.line.specs.declared.receiver.Received.{Received}
+use Rattle.worked.specs.Slots.{sender-stands, receiver-stands}
+
+-- no call of the word code answers 1
+pub record Stands (s : Setting) : Type 0 where
+  pub encode : (message held left : List ℕ) (d : Encoded) → encodeOutcome d left ≡ encodes s message held → d ≢ E.BadSetting
+  pub decode : (received marks left : List ℕ) (d : Decoded) → outcome d left ≡ decoded s marks received → d ≢ BadSetting
+  pub decode-part : (received marks part left : List ℕ) (d : Decoded) → outcome d left ≡ decodedPart s marks received part → d ≢ BadSetting
+
+-- each answers 1 and leaves its buffer
+pub record Refused (s : Setting) : Type 0 where
+  pub encode : (message held left : List ℕ) (d : Encoded) → encodeOutcome d left ≡ encodes s message held → (d ≡ E.BadSetting) × (left ≡ held)
+  pub decode : (received marks left : List ℕ) (d : Decoded) → outcome d left ≡ decoded s marks received → (d ≡ BadSetting) × (left ≡ received)
+  pub decode-part : (received marks part left : List ℕ) (d : Decoded) → outcome d left ≡ decodedPart s marks received part → (d ≡ BadSetting) × (left ≡ part)
+
+-- a delay line can be made fresh, in memories of its length
+pub record LineStands (I M n : ℕ) : Type 0 where
+  pub sender : (held left : List ℕ) (r : Ready) → length held ≡ memorySize I M → FreshSender I M n held r left → r .answer ≡ 0
+  pub receiver : (held marks left leftMarks : List ℕ) (r : Ready) → length held ≡ memorySize I M → length marks ≡ length held
+      → FreshReceiver I M n held marks r left leftMarks → r .answer ≡ 0
+
+-- each call on it answers 1 and leaves what was lent, whatever its position
+pub record LineRefused (I M n : ℕ) : Type 0 where
+  pub fresh-sender : (m left : List ℕ) (r : Ready) → FreshSender I M n m r left → (r .answer ≡ 1) × (left ≡ m)
+  pub fresh-receiver : (m ms left leftMarks : List ℕ) (r : Ready) → FreshReceiver I M n m ms r left leftMarks → (r .answer ≡ 1) × (left ≡ m) × (leftMarks ≡ ms)
+  pub send-step : (p b : ℕ) (m left : List ℕ) (r : Sent) → SendStep (lineAt I M n p) m b r left → (r .answer ≡ 1) × (left ≡ m)
+  pub receive-step : (p b k : ℕ) (m ms left leftMarks : List ℕ) (r : Received) → ReceiveStep (lineAt I M n p) m ms b k r left leftMarks
+      → (r .answer ≡ 1) × (left ≡ m) × (leftMarks ≡ ms)
+  pub send-run : (p : ℕ) (m bs left out : List ℕ) (r : Ready) → SendRun (lineAt I M n p) m bs r left out → (r .answer ≡ 1) × (left ≡ m) × (out ≡ bs)
+  pub receive-run : (p : ℕ) (m ms bs ks left leftMarks out outMarks : List ℕ) (r : Ready)
+      → ReceiveRun (lineAt I M n p) m ms bs ks r left leftMarks out outMarks
+      → (r .answer ≡ 1) × (left ≡ m) × (leftMarks ≡ ms) × (out ≡ bs) × (outMarks ≡ ks)
+
+abbrev pub setting : (m n r b : ℕ) → Setting
+setting m n r b = record { m = m; n = n; r = r; b = b }
+
+-- the limits of r and b, and those of I, M and n that a line's room leaves
+pub record Limits : Type 0 where
+  -- n = 255 stands, 256 is refused 1
+  pub n-255 : (r b : ℕ) → 2 ≤ r → r ≤ 16 → b ≤ 1 → Stands (setting 8 255 r b)
+  pub n-256 : (r b : ℕ) → Refused (setting 8 256 r b)
+  -- r = 1 or 17 is refused 1
+  pub r-1 : (m n b : ℕ) → Refused (setting m n 1 b)
+  pub r-17 : (m n b : ℕ) → Refused (setting m n 17 b)
+  -- M·I = n stands, M·I = n − I does not
+  pub line-stands : (I M n : ℕ) → (2 ≤ I) × (I ≤ 16) → (1 ≤ M) × (M ≤ 128) → (3 ≤ n) × (n ≤ 255) → M * I ≡ n → LineStands I M n
+  pub line-refused : (I M n : ℕ) → M * I + I ≡ n → LineRefused I M n
+
+-- ---- laws: the word code
+
+-- an outcome that passes the setting's check, and whose own number is not 1
+past : (l p : Bool) (word : List ℕ) (o : Outcome) → o .number ≢ 1 → unless (refusal true l p) word o .number ≢ 1
+unfolding refusal unless
+past false p word o h e = omega arith
+past true false word o h e = omega arith
+past true true word o h e = h e
+
+settled : (place : List ℕ → List ℕ) (marks received lent : List ℕ) (o : Option (List ℕ)) → settle place marks received lent o .number ≢ 1
+settled place marks received lent none e = omega arith
+settled place marks received lent (some c) e = omega arith
+
+stands : (s : Setting) → true ≡ allowed s → Stands s
+unfolding encodes decoded decodedPart
+stands s a = record {
+  encode = λ message held left d p e. past _ _ held _ (λ z. omega arith) (rw (← a, e) at (sym (ap (λ (o : Outcome). o .number) p)));
+  decode = λ received marks left d p e. past _ _ received _ (settled _ _ _ _ (corrected s marks received)) (rw (← a, e) at (sym (ap (λ (o : Outcome). o .number) p)));
+  decode-part = λ received marks part left d p e. past _ _ part _ (settled _ _ _ _ (corrected s marks received)) (rw (← a, e) at (sym (ap (λ (o : Outcome). o .number) p)));
+}
+
+refused : (s : Setting) → (Allowed s → ⊥) → Refused s
+refused s h =
+    let a : allowed s ≡ false = sym (allowed-no s h) in
+    record {
+      encode = λ message held left d p. encode-once s message held d E.BadSetting left held p (encode-setting s message held a);
+      decode = λ received marks left d p. decode-once s marks received d BadSetting left received p
+          (decode-refused s marks received 1 BadSetting (refusal-setting _ _ _ a) (lit≤ tt) (record { number = refl; none = refl }));
+      decode-part = λ received marks part left d p. decode-part-once s marks received part d BadSetting left part p (part-setting s marks received part a);
+    }
+
+-- ---- laws: the delay line
+
+line-no : (I M n p size : ℕ) → M * I + I ≡ n → lineRefusal (lineAt I M n p) size ≡ 1
+unfolding lineRefusal
+line-no I M n p size e = sym (need-no _ 1 _ λ a. omega (arith, a .setting .room, a .setting .branches .0))
+
+pub limits : Limits
+unfolding isField receiverRefusal receiveRefusal runRefusal sendStep sendMemory receiveStep receiveMemory receiveMarks
+limits = record {
+  n-255 = λ r b low high small. stands (setting 8 255 r b)
+      (allowed-yes (setting 8 255 r b) (record { field = tt; low = low; high = high; room = omega arith; short = lit< tt; start = small }));
+  n-256 = λ r b. refused (setting 8 256 r b) λ a. omega (arith, a .short);
+  r-1 = λ m n b. refused (setting m n 1 b) λ a. omega (arith, a .low);
+  r-17 = λ m n b. refused (setting m n 17 b) λ a. omega (arith, a .high);
+  line-stands = λ I M n branches unit size e.
+      let t : line.Setting I M n = record { branches = branches; unit = unit; size = size; whole = rw (← e) (mul-mod-left M I); room = omega arith } in
+      record {
+        sender = λ held left r k p. ap (λ (z : Ready). z .answer) (p .answer) ∙ sender-stands I M n t (length held) k;
+        receiver = λ held marks left leftMarks r k g p. ap (λ (z : Ready). z .answer) (p .answer) ∙ receiver-stands I M n t (length held) (length marks) k g;
+      };
+  line-refused = λ I M n e. record {
+    fresh-sender = λ m left r p. let one = line-no I M n 0 (length m) e in (rw one at (ap (λ (z : Ready). z .answer) (p .answer)), rw one at (p .memory));
+    fresh-receiver = λ m ms left leftMarks r p. let one = line-no I M n 0 (length m) e in (rw one at (ap (λ (z : Ready). z .answer) (p .answer)), rw one at (p .memory), rw one at (p .held));
+    send-step = λ p b m left r q. let one = line-no I M n p (length m) e in (rw one at (ap (λ (z : Sent). z .answer) (q .answer)), rw one at (q .memory));
+    receive-step = λ p b k m ms left leftMarks r q. let one = line-no I M n p (length m) e in (rw one at (ap (λ (z : Received). z .answer) (q .answer)), rw one at (q .memory), rw one at (q .held));
+    send-run = λ p m bs left out r q. let one = line-no I M n p (length m) e in (rw one at (ap (λ (z : Ready). z .answer) (q .answer)), rw one at (q .memory), rw one at (q .bytes));
+    receive-run = λ p m ms bs ks left leftMarks out outMarks r q.
+        let one = line-no I M n p (length m) e in (rw one at (ap (λ (z : Ready). z .answer) (q .answer)), rw one at (q .memory), rw one at (q .held), rw one at (q .bytes), rw one at (q .marks));
+  };
+}
+
+-- EN 300 421: 12 branches of unit 17 hold 1122 bytes
+pub satellite-memory : memorySize 12 17 ≡ 1122
+satellite-memory = refl
