@@ -7,8 +7,8 @@ use Prim.Native.Nat.{ℕ, _+_, _*_, _≤_, _<_}
 use lib.ListN.{length, getD}
 use lib.Dec.{T}
 use Rattle.interleave.specs.Runs.{Clear}
-use Rattle.link.specs.Frame.{allowedFrame}
-use Rattle.link.specs.declared.frame.Framing.{Framing}
+use Rattle.frame.specs.Frame.{allowedFrame}
+use Rattle.frame.specs.declared.setting.Framing.{Framing}
 use Rattle.coverage.specs.Channel.{half, Struck, Marked, Each}
 use Rattle.coverage.specs.Frame.{Message, Frame, FrameWithin, frameAt, Arrives, Answer, Answers, ComesBack}
 use Rattle.coverage.specs.Line.{LineSetting, LineAllowed, delay, LineWithin, LineArrives, LineReceived, leaving, WordComesBack}

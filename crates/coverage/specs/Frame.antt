@@ -8,10 +8,10 @@ use lib.ListN.{length}
 use lib.Dec.{T}
 use Rattle.algebra.specs.Tests.{at, below}
 use Rattle.algebra.specs.Lists.{tabulate}
-use Rattle.link.specs.Frame.{areaSize, slotCount, sendOutcome, sent, answered, received, payloadOf, numberOf}
-use Rattle.link.specs.declared.frame.Framing.{Framing}
-use Rattle.link.specs.declared.frame.Sent.{Sent}
-use Rattle.link.specs.declared.frame.Received.{Received}
+use Rattle.frame.specs.Frame.{areaSize, slotCount, sendOutcome, sent, answered, received, payloadOf, numberOf}
+use Rattle.frame.specs.declared.setting.Framing.{Framing}
+use Rattle.frame.specs.declared.setting.Sent.{Sent}
+use Rattle.frame.specs.declared.setting.Received.{Received}
 use Rattle.coverage.specs.Channel.{Channel, Within}
 
 -- a frame's message, and whether it fits: a payload of at most A - 4 bytes, and a number of 16 bits

@@ -15,17 +15,17 @@ use Rattle.algebra.specs.Tests.{at, below, both, below-all, below-at, below-app
 use Rattle.algebra.specs.Lists.{length-tabulate}
 use Rattle.word.specs.Setting.{allowed, messageSize, allowed-yes}
 use Rattle.word.specs.Code.{encoded}
-use Rattle.link.specs.Lists.{joined, part, within}
-use Rattle.link.specs.Slots.{wordIn, word-back}
-use Rattle.link.specs.Frame.{wordSetting, areaSize, allowedFrame, two, twoAt, trailer, areaSent, wordSent, slotsSent, trailerGood, correctedWord, isNone, messageOf, beyond, areaReceived, figuresReceived, payloadOf, answered, received, numberOf}
-use Rattle.link.specs.Frame.Limits.{FrameAllowed, frame-kept, area-few}
-use Rattle.link.specs.Frame.Trailer.{length-sent, sent-zero, sent-trailer, zeros-all, good-within, payload-there}
-use Rattle.link.specs.Frame.Sending.{send-done, send-once}
-use Rattle.link.specs.Frame.Receiving.{settled-good, decoded-settled, receive-decoded, receive-once}
-use Rattle.link.specs.declared.frame.Framing.{Framing}
-use Rattle.link.specs.declared.frame.Received.{Received}
-use Rattle.link.specs.declared.frame.Sent.the-variants as S
-use Rattle.link.specs.declared.frame.Verdict.the-variants.{Done}
+use Rattle.frame.specs.Lists.{joined, part, within}
+use Rattle.frame.specs.Slots.{wordIn, word-back}
+use Rattle.frame.specs.Frame.{wordSetting, areaSize, allowedFrame, two, twoAt, trailer, areaSent, wordSent, slotsSent, trailerGood, correctedWord, isNone, messageOf, beyond, areaReceived, figuresReceived, payloadOf, answered, received, numberOf}
+use Rattle.frame.specs.Frame.Limits.{FrameAllowed, frame-kept, area-few}
+use Rattle.frame.specs.Frame.Trailer.{length-sent, sent-zero, sent-trailer, zeros-all, good-within, payload-there}
+use Rattle.link.specs.Sending.{send-done, send-once}
+use Rattle.link.specs.Receiving.{settled-good, decoded-settled, receive-decoded, receive-once}
+use Rattle.frame.specs.declared.setting.Framing.{Framing}
+use Rattle.frame.specs.declared.setting.Received.{Received}
+use Rattle.frame.specs.declared.setting.Sent.the-variants as S
+use Rattle.frame.specs.declared.setting.Verdict.the-variants.{Done}
 use Rattle.coverage.specs.Frame.{Message, Fits, FrameSent, frameWord, Frame, Arrives, Answer, Answers, ComesBack}
 use Rattle.coverage.specs.Coverage.{FrameComesBack, FramesComeBack, NoTwoFramesAlike}
 use Rattle.coverage.specs.Each.{each-chain, each-once}

@@ -17,8 +17,8 @@ use Rattle.word.specs.Word.{errorOf, errorOf-same, errorOf-marked, errors, mark
 use Rattle.word.specs.Distance.{total-zero}
 use Rattle.interleave.specs.Block.{in-block}
 use Rattle.interleave.specs.Runs.{in?, hit?, Clear, run, runs, block-spaced, slotOf, line-spaced, line-near}
-use Rattle.link.specs.Frame.{slotCount}
-use Rattle.link.specs.declared.frame.Framing.{Framing}
+use Rattle.frame.specs.Frame.{slotCount}
+use Rattle.frame.specs.declared.setting.Framing.{Framing}
 use Rattle.coverage.specs.Channel.{Within, half, Struck, Marked}
 use Rattle.coverage.specs.Frame.{frameWord, frameAt}
 use Rattle.coverage.specs.Line.{LineSetting, LineAllowed, delay}

@@ -11,8 +11,8 @@ use Rattle.algebra.specs.Tests.{total, below}
 use Rattle.algebra.specs.Lists.{tabulate}
 use Rattle.word.specs.Word.{errorOf, errors, marked}
 use Rattle.link.specs.FrameExample.{sent-example}
-use Rattle.link.specs.declared.frame.Framing.{Framing}
-use Rattle.link.specs.declared.frame.Sent.the-variants.{Done}
+use Rattle.frame.specs.declared.setting.Framing.{Framing}
+use Rattle.frame.specs.declared.setting.Sent.the-variants.{Done}
 use Rattle.coverage.specs.Frame.{Frame, FrameWithin, Arrives}
 
 abbrev example : Framing

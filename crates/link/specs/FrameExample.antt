@@ -21,10 +21,10 @@ use Rattle.word.specs.Answers.{noFigures}
 use Rattle.word.specs.declared.Setting.{Setting}
 use Rattle.word.specs.declared.Figures.{Figures}
 use Rattle.interleave.specs.Block.{transposed}
-use Rattle.link.specs.Lists.{joined}
-use Rattle.link.specs.Slots.{wordIn}
-use Rattle.link.specs.Frame.{allowedFrame, areaSent, wordSent, slotsSent, sent, correctedWord, messageOf, figuresAt, beyond, areaReceived, figuresReceived, zerosBefore, trailerGood, payloadIn, settled, decodedFrame, received}
-use Rattle.link.specs.declared.frame.Framing.{Framing}
+use Rattle.frame.specs.Lists.{joined}
+use Rattle.frame.specs.Slots.{wordIn}
+use Rattle.frame.specs.Frame.{allowedFrame, areaSent, wordSent, slotsSent, sent, correctedWord, messageOf, figuresAt, beyond, areaReceived, figuresReceived, zerosBefore, trailerGood, payloadIn, settled, decodedFrame, received}
+use Rattle.frame.specs.declared.setting.Framing.{Framing}
 
 -- J = 2, n = 5, r = 2, b = 0
 abbrev example : Framing

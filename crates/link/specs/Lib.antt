@@ -1,5 +1,5 @@
-pub mod Lists
-pub mod Slots
-pub mod Frame
+pub mod Sending
+pub mod Decoding
+pub mod Receiving
 pub mod FrameExample
 pub mod Receiver

@@ -2,10 +2,10 @@
 -- Assumes nothing.
 use mathlib.Core.List.{List}
 use Prim.Native.Nat.{ℕ}
-use Rattle.link.specs.Frame.{ReceiveOutcome, receiveOutcome, payloadOf, received}
+use Rattle.frame.specs.Frame.{ReceiveOutcome, receiveOutcome, payloadOf, received}
 use Rattle.record.specs.Record.{noted}
-use Rattle.link.specs.declared.frame.Framing.{Framing}
-use Rattle.link.specs.declared.frame.Received.{Received}
+use Rattle.frame.specs.declared.setting.Framing.{Framing}
+use Rattle.frame.specs.declared.setting.Received.{Received}
 use Rattle.record.specs.declared.Record.{Record}
 pub mod Laws
 

@@ -1,23 +1,20 @@
 // The link: document 01, sections Block interleaver and frame, and Receiver's record. A payload and its sequence number are sent as one
 // frame of interleaved words; a received frame is decoded into a lent message area, which then holds the payload; and what each frame was
 // answered is noted in the receiver's record.
-mod frame;
 mod receiver;
 mod receiving;
 mod sending;
-mod slots;
-mod trailer;
 
 // Frames.
-pub use frame::Framing;
-pub use frame::Received;
-pub use frame::Sent;
-pub use frame::Verdict;
-pub use frame::is_allowed;
+pub use frame::setting::Framing;
+pub use frame::setting::Received;
+pub use frame::setting::Sent;
+pub use frame::setting::Verdict;
+pub use frame::setting::is_allowed;
+pub use frame::trailer::payload;
 pub use receiving::receive;
 pub use receiving::receive_part;
 pub use sending::send;
-pub use trailer::payload;
 
 // The receiver's record.
 pub use record::Kind;

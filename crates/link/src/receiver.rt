@@ -1,12 +1,12 @@
 // The receiver's whole call: document 01, sections Block interleaver and frame, and Receiver's record. A frame is received, and what it
 // was answered is noted in the record, so that no caller notes another number. What each call promises is defined in specs/Receiver.antt.
 ghost use mathlib.Core.Path.{_≡_};
-ghost use Rattle.link.specs.Frame.{numberOf};
+ghost use Rattle.frame.specs.Frame.{numberOf};
 ghost use Rattle.link.specs.Receiver.{heard, hearOutcome};
-use crate::frame::Framing;
-use crate::frame::Received;
-use crate::frame::Verdict;
 use crate::receiving::receive;
+use frame::setting::Framing;
+use frame::setting::Received;
+use frame::setting::Verdict;
 use record::Record;
 use record::note;
 

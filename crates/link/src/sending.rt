@@ -1,15 +1,15 @@
 // Sending a frame.
 ghost use mathlib.Core.Path.{_≡_};
 ghost use lib.ListN.{length};
-ghost use Rattle.link.specs.Frame.{slotsSent, sent, sendOutcome};
-ghost use Rattle.link.specs.Frame.Sending.{Sends};
-use crate::frame::Framing;
-use crate::frame::Sent;
-use crate::frame::is_allowed;
-use crate::frame::words_of;
-use crate::slots::put_word;
-use crate::slots::work_space;
-use crate::trailer::fill_message;
+ghost use Rattle.frame.specs.Frame.{slotsSent, sent, sendOutcome};
+ghost use Rattle.link.specs.Sending.{Sends};
+use frame::setting::Framing;
+use frame::setting::Sent;
+use frame::setting::is_allowed;
+use frame::setting::words_of;
+use frame::slots::put_word;
+use frame::slots::work_space;
+use frame::trailer::fill_message;
 
 // Encodes each word's part of the area, and puts it into its slots. The two buffers are work space for a message and its word.
 fn send_words(

@@ -6,7 +6,7 @@ use Prim.Native.Nat.{ℕ, _+_, _≤_}
 use lib.ListN.{length, getD}
 use Rattle.word.specs.Answers.{noFigures}
 use Rattle.word.specs.declared.Figures.{Figures}
-use Rattle.link.specs.Lists.{joined, joined-more}
+use Rattle.frame.specs.Lists.{joined, joined-more}
 use Rattle.reader.specs.Text.{bytes, decimal, hexes}
 use Rattle.reader.specs.Put.{Put, put-none, put-then}
 use Rattle.reader.specs.Spoken.{newline, named, refusal, firstLine, wordLine, wordLines, frameText}

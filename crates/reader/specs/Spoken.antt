@@ -8,9 +8,9 @@ use lib.ListN.{length, getD, drop, replicate}
 use Rattle.algebra.specs.Tests.{if_then_else_, at}
 use Rattle.word.specs.Answers.{noFigures}
 use Rattle.word.specs.declared.Figures.{Figures}
-use Rattle.link.specs.Lists.{joined}
-use Rattle.link.specs.Frame.{slotCount, areaSize, allowedFrame, ReceiveOutcome, received}
-use Rattle.link.specs.declared.frame.Framing.{Framing}
+use Rattle.frame.specs.Lists.{joined}
+use Rattle.frame.specs.Frame.{slotCount, areaSize, allowedFrame, ReceiveOutcome, received}
+use Rattle.frame.specs.declared.setting.Framing.{Framing}
 use Rattle.reader.specs.Text.{bytes, decimal, hexes}
 pub mod Head
 pub mod Answers

@@ -2,7 +2,7 @@
 ghost use mathlib.Core.Path.{_≡_};
 ghost use Prim.Native.Nat.{_≤_, _<_};
 ghost use lib.ListN.{length};
-ghost use Rattle.link.specs.Frame.{numberOf};
+ghost use Rattle.frame.specs.Frame.{numberOf};
 ghost use Rattle.reader.specs.Spoken.{framingOf, wantedOf};
 use link::Framing;
 use link::Verdict;

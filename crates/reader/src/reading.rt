@@ -2,8 +2,8 @@
 ghost use mathlib.Core.Path.{_≡_};
 ghost use Prim.Native.Nat.{_≤_};
 ghost use lib.ListN.{length};
-ghost use Rattle.link.specs.Frame.{received};
-ghost use Rattle.link.specs.Frame.Limits.{FrameAllowed};
+ghost use Rattle.frame.specs.Frame.{received};
+ghost use Rattle.frame.specs.Frame.Limits.{FrameAllowed};
 ghost use Rattle.reader.specs.Put.{Put};
 ghost use Rattle.reader.specs.Spoken.{blank, answerTo, told, textLeft, reported};
 use crate::head::framing;

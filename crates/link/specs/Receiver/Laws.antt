@@ -3,13 +3,13 @@
 use mathlib.Core.Path.{_≡_, sym, ap, _∙_}
 use mathlib.Core.List.{List}
 use Prim.Native.Nat.{ℕ}
-use Rattle.link.specs.Frame.{receiveOutcome, payloadOf, received, numberOf}
-use Rattle.link.specs.Frame.Receiving.{receive-once}
+use Rattle.frame.specs.Frame.{receiveOutcome, payloadOf, received, numberOf}
+use Rattle.link.specs.Receiving.{receive-once}
 use Rattle.record.specs.Record.{noted}
 use Rattle.link.specs.Receiver.{HearOutcome, hearOutcome, heard}
-use Rattle.link.specs.declared.frame.Framing.{Framing}
-use Rattle.link.specs.declared.frame.Received.{Received}
-use Rattle.link.specs.declared.frame.Verdict.{Verdict}
+use Rattle.frame.specs.declared.setting.Framing.{Framing}
+use Rattle.frame.specs.declared.setting.Received.{Received}
+use Rattle.frame.specs.declared.setting.Verdict.{Verdict}
 use Rattle.record.specs.declared.Record.{Record}
 
 module _ (h : Record) (f : Framing) (marks slots area : List ℕ) where

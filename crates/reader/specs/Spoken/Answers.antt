@@ -11,10 +11,10 @@ use lib.Dec.{leb}
 use lib.ListN.{length, take, drop, length-take, length-drop}
 use lib.Seq.{length-take-le, take-all}
 use Rattle.algebra.specs.Tests.{if_then_else_, at}
-use Rattle.link.specs.Frame.{slotCount, areaSize, allowedFrame, ReceiveOutcome, received, numberOf, isDone, payloadIn, payloadOf, answered}
-use Rattle.link.specs.Frame.Limits.{FrameAllowed, slots-few, area-few}
-use Rattle.link.specs.declared.frame.Framing.{Framing}
-use Rattle.link.specs.declared.frame.Received.{Received}
+use Rattle.frame.specs.Frame.{slotCount, areaSize, allowedFrame, ReceiveOutcome, received, numberOf, isDone, payloadIn, payloadOf, answered}
+use Rattle.frame.specs.Frame.Limits.{FrameAllowed, slots-few, area-few}
+use Rattle.frame.specs.declared.setting.Framing.{Framing}
+use Rattle.frame.specs.declared.setting.Received.{Received}
 use Rattle.reader.specs.Put.{Put, put-size}
 use Rattle.reader.specs.Spoken.{refusal, frameText, framingOf, blank, answerTo, told, spoken, Left, textLeft, reported, wantedOf}
 

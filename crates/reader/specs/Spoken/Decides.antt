@@ -9,8 +9,8 @@ use borrow.Author.Tests.{ltb-true, ltb-false, leb-true, leb-false, le-ltb, ne-eq
 use lib.Dec.{ltb, leb}
 use lib.ListN.{length, take, drop, length-drop}
 use lib.Seq.{take-all, getD-take, length-take-le}
-use Rattle.link.specs.Frame.{slotCount, allowedFrame, received}
-use Rattle.link.specs.declared.frame.Framing.{Framing}
+use Rattle.frame.specs.Frame.{slotCount, allowedFrame, received}
+use Rattle.frame.specs.declared.setting.Framing.{Framing}
 use Rattle.reader.specs.Spoken.{framingOf, refusal, answerTo, told, spoken, wantedOf}
 use Rattle.reader.specs.Spoken.Head.{wanted-short, wanted-refused, wanted-slots}
 use Rattle.reader.specs.Spoken.Answers.{spoken-setting}

@@ -6,7 +6,7 @@ use mathlib.Core.List.{List}
 use Prim.Native.Nat.{ℕ, _+_, _≤_, _<_}
 use borrow.Author.Tests.{lt-ltb, le-ltb}
 use lib.ListN.{length}
-use Rattle.link.specs.Frame.{slotCount, allowedFrame}
+use Rattle.frame.specs.Frame.{slotCount, allowedFrame}
 use Rattle.reader.specs.Spoken.{framingOf, wantedOf}
 
 module _ (input : List ℕ) where

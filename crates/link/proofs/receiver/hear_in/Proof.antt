@@ -43,16 +43,16 @@ use denote.Triple.Clauses.{ensured, lasts}
 use denote.Exit.{yes}
 use Rattle.record.specs.declared.Record.{Record}
 use Rattle.link.specs.declared.receiver.Heard.{Heard}
-use Rattle.link.specs.declared.frame.Framing.{Framing}
+use Rattle.frame.specs.declared.setting.Framing.{Framing}
 use Rattle.link.specs.Receiver.{hearOutcome, heard as heardOf}
-use Rattle.link.proofs.frame.Framing as framing-type
-use Rattle.link.proofs.frame.Framing.Laws as framing-laws
+use Rattle.frame.proofs.setting.Framing as framing-type
+use Rattle.frame.proofs.setting.Framing.Laws as framing-laws
 use Rattle.record.proofs.Record as T
 use Rattle.record.proofs.Record.Laws as T′
 use Rattle.link.proofs.receiver.Heard as K
 use Rattle.link.proofs.receiver.Heard.Laws as K′
-use Rattle.link.proofs.frame.Received as N
-use Rattle.link.proofs.frame.Received.Laws as N′
+use Rattle.frame.proofs.setting.Received as N
+use Rattle.frame.proofs.setting.Received.Laws as N′
 use Rattle.link.proofs.receiver.hear as g
 use Rattle.link.proofs.receiver.hear.Symbol as g-def
 use Rattle.link.proofs.receiver.hear.Symbol.{name as #link·receiver·hear}

@@ -4,9 +4,9 @@ use mathlib.Core.Path.{sym, _∙_}
 use native.Mathlib.Omega.{arith}
 use borrow.Author.Needs.{needs}
 use borrow.Author.Tests.{not-true, not-false}
-use Rattle.link.specs.Slots.{marks-tested}
-use Rattle.link.specs.Frame.Limits.{frame-kept, area-few, slots-few}
-use Rattle.link.specs.Frame.Receiving.{receive-setting, receive-slots, receive-marks, receive-area, receive-mark, receive-decoded}
+use Rattle.frame.specs.Slots.{marks-tested}
+use Rattle.frame.specs.Frame.Limits.{frame-kept, area-few, slots-few}
+use Rattle.link.specs.Receiving.{receive-setting, receive-slots, receive-marks, receive-area, receive-mark, receive-decoded}
 use Rattle.link.proofs.receiving.receive.Statement.{statement}
 use Rattle.link.proofs.receiving.receive.Tie as tie
 

@@ -7,8 +7,8 @@ use native.Mathlib.Omega.{arith}
 use borrow.Author.Needs.{needs}
 use lib.ListN.{length}
 use lib.Seq.{length-take-le}
-use Rattle.link.specs.Frame.Limits.{short-word}
-use Rattle.link.specs.Frame.Receiving.{decoded-beyond, decoded-settled}
+use Rattle.frame.specs.Frame.Limits.{short-word}
+use Rattle.link.specs.Receiving.{decoded-beyond, decoded-settled}
 use Rattle.link.proofs.receiving.receive_checked.Statement.{statement}
 use Rattle.link.proofs.receiving.receive_checked.Tie as tie
 

@@ -2,7 +2,7 @@
 -- Assumes nothing.
 use mathlib.Core.Path.{ap}
 use borrow.Author.Needs.{needs}
-use Rattle.link.specs.Frame.{handedBack}
+use Rattle.frame.specs.Frame.{handedBack}
 use Rattle.link.proofs.receiving.receive_part.Statement.{statement}
 use Rattle.link.proofs.receiving.receive_part.Tie as tie
 

@@ -4,8 +4,8 @@ use mathlib.Core.Path.{refl, sym, ap, _∙_}
 use Prim.Native.Nat.{ℕ, _*_}
 use native.Mathlib.Omega.{arith}
 use borrow.Author.Needs.{needs}
-use Rattle.link.specs.Frame.Decoding.{word-decoded}
-use Rattle.link.specs.Frame.Limits.{short-word}
+use Rattle.link.specs.Decoding.{word-decoded}
+use Rattle.frame.specs.Frame.Limits.{short-word}
 use Rattle.link.proofs.receiving.receive_word.Statement.{statement}
 use Rattle.link.proofs.receiving.receive_word.Tie as tie
 

@@ -7,8 +7,8 @@ use native.Mathlib.Omega.{arith}
 use borrow.Author.Needs.{needs}
 use borrow.Author.Tests.{not-true, not-false}
 use lib.ListN.{length, take, drop, length-take, length-drop}
-use Rattle.link.specs.Frame.Decoding.{Collecting, collecting-none, same, fits, put-size, collecting-more, collected-lost, collected-all}
-use Rattle.link.specs.Frame.Limits.{area-few}
+use Rattle.link.specs.Decoding.{Collecting, collecting-none, same, fits, put-size, collecting-more, collected-lost, collected-all}
+use Rattle.frame.specs.Frame.Limits.{area-few}
 use Rattle.link.proofs.receiving.receive_words.Statement.{statement}
 use Rattle.link.proofs.receiving.receive_words.Tie as tie
 

@@ -3,7 +3,7 @@
 use mathlib.Core.Path.{sym, _∙_}
 use borrow.Author.Needs.{needs}
 use borrow.Author.Tests.{not-true, not-false}
-use Rattle.link.specs.Frame.Receiving.{settled-bad, settled-good}
+use Rattle.link.specs.Receiving.{settled-bad, settled-good}
 use Rattle.link.proofs.receiving.settle.Statement.{statement}
 use Rattle.link.proofs.receiving.settle.Tie as tie
 

@@ -7,8 +7,8 @@ use borrow.Author.Needs.{needs}
 use borrow.Author.Tests.{not-true, not-false}
 use lib.ListN.{length}
 use lib.Seq.{length-take-le}
-use Rattle.link.specs.Frame.Limits.{frame-kept, short-word, area-few, slots-few}
-use Rattle.link.specs.Frame.Sending.{send-setting, send-length, send-long, send-done}
+use Rattle.frame.specs.Frame.Limits.{frame-kept, short-word, area-few, slots-few}
+use Rattle.link.specs.Sending.{send-setting, send-length, send-long, send-done}
 use Rattle.link.proofs.sending.send.Statement.{statement}
 use Rattle.link.proofs.sending.send.Tie as tie
 

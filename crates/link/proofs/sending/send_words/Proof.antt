@@ -5,9 +5,9 @@ use Prim.Native.Nat.{ℕ, _-_, _*_}
 use native.Mathlib.Omega.{arith}
 use borrow.Author.Needs.{needs}
 use lib.ListN.{length}
-use Rattle.link.specs.Frame.Limits.{area-few, short-word}
-use Rattle.link.specs.Frame.Sending.{Sending, sending-none, sending-more, sending-all}
-use Rattle.link.specs.Lists.{within}
+use Rattle.frame.specs.Frame.Limits.{area-few, short-word}
+use Rattle.link.specs.Sending.{Sending, sending-none, sending-more, sending-all}
+use Rattle.frame.specs.Lists.{within}
 use Rattle.link.proofs.sending.send_words.Statement.{statement}
 use Rattle.link.proofs.sending.send_words.Tie as tie
 

@@ -3,7 +3,7 @@
 use native.Mathlib.Omega.{arith}
 use mathlib.Core.Path.{sym, _∙_}
 use borrow.Author.Needs.{needs}
-use Rattle.link.specs.Frame.Limits.{frame-kept, slots-few}
+use Rattle.frame.specs.Frame.Limits.{frame-kept, slots-few}
 use Rattle.reader.specs.Spoken.Head.{wanted-short, wanted-refused, wanted-slots}
 use borrow.Author.Tests.{not-true, not-false}
 use Rattle.reader.proofs.head.wanted.Statement.{statement}

@@ -2,9 +2,9 @@
 -- Assumes nothing.
 use native.Mathlib.Omega.{arith}
 use borrow.Author.Needs.{needs}
-use Rattle.link.specs.Frame.Limits.{slots-few, area-few}
+use Rattle.frame.specs.Frame.Limits.{slots-few, area-few}
 use Rattle.reader.specs.Spoken.Answers.{part-size, unmarked}
-use Rattle.link.specs.Frame.{areaSize}
+use Rattle.frame.specs.Frame.{areaSize}
 use Rattle.reader.proofs.reading.put_unmarked.Statement.{statement}
 use Rattle.reader.proofs.reading.put_unmarked.Tie as tie
 

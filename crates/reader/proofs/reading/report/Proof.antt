@@ -4,7 +4,7 @@ use native.Mathlib.Omega.{arith}
 use mathlib.Core.Path.{sym, _∙_}
 use borrow.Author.Needs.{needs}
 use borrow.Author.Tests.{not-true, not-false}
-use Rattle.link.specs.Frame.Limits.{frame-kept}
+use Rattle.frame.specs.Frame.Limits.{frame-kept}
 use Rattle.reader.specs.Spoken.Answers.{spoken-short, spoken-setting, spoken-answer, left-behind}
 use Rattle.reader.proofs.reading.report.Statement.{statement}
 use Rattle.reader.proofs.reading.report.Tie as tie

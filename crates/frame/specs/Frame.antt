@@ -1,0 +1,235 @@
+-- Document 01, "Block interleaver and frame" and "Numbers a call can answer": a frame's limits, its message area, and what sending and
+-- receiving answer and leave, for every input.
+-- Assumes nothing.
+use mathlib.Core.Bool.{Bool, true, false, _&&_, not}
+use mathlib.Core.List.{List, [], _∷_, _++_}
+use mathlib.Core.Option.{Option, some, none, Option·getD}
+use Prim.Native.Nat.{ℕ, _+_, _-_, _*_, _/_, _%_}
+use lib.ListN.{length, take, drop, replicate}
+use lib.Dec.{leb, ltb, eqb}
+use Rattle.algebra.specs.Tests.{if_then_else_, at, each, below, firstBelow}
+use Rattle.algebra.specs.Lists.{tabulate}
+use Rattle.word.specs.Setting.{allowed, messageSize}
+use Rattle.word.specs.Code.{encoded, corrected}
+use Rattle.word.specs.Answers.{noFigures, figures}
+use Rattle.word.specs.declared.Setting.{Setting}
+use Rattle.word.specs.declared.Figures.{Figures}
+use Rattle.interleave.specs.Block.{spread}
+use Rattle.frame.specs.Lists.{joined, part}
+use Rattle.frame.specs.Slots.{wordIn}
+use Rattle.frame.specs.declared.setting.Framing.{Framing}
+use Rattle.frame.specs.declared.setting.Sent.{Sent}
+use Rattle.frame.specs.declared.setting.Sent.the-variants as S
+use Rattle.frame.specs.declared.setting.Verdict.{Verdict}
+use Rattle.frame.specs.declared.setting.Verdict.the-variants.{Done, BadSetting, BadLength, BadMark, BeyondReach, BadTrailer}
+use Rattle.frame.specs.declared.setting.Received.{Received}
+pub mod Limits
+pub mod Trailer
+
+-- ---- the setting
+
+-- a frame's words are of bytes
+abbrev pub wordSetting : Framing → Setting
+wordSetting f = record { m = 8; n = f .n; r = f .r; b = f .b }
+
+-- n·J slots, and an area of A = J·k bytes
+abbrev pub slotCount : Framing → ℕ
+slotCount f = f .n * f .depth
+
+abbrev pub areaSize : Framing → ℕ
+areaSize f = f .depth * messageSize (wordSetting f)
+
+-- the words' limits; J is 1 to 16, and A at least 4
+unfoldable pub allowedFrame : Framing → Bool
+allowedFrame f = allowed (wordSetting f) && leb 1 (f .depth) && leb (f .depth) 16 && leb 4 (areaSize f)
+
+-- ---- the area
+
+-- a number of 16 bits as two bytes, low first; and back
+abbrev pub two : ℕ → List ℕ
+two x = x % 256 ∷ x / 256 ∷ []
+
+abbrev pub twoAt : List ℕ → ℕ → ℕ
+twoAt area i = at area i + 256 * at area (i + 1)
+
+-- the bytes from `start` on
+abbrev pub areaByte : List ℕ → ℕ → ℕ → ℕ
+areaByte area start i = at area (start + i)
+
+-- `back`, then the sequence number
+abbrev pub trailer : ℕ → ℕ → List ℕ
+trailer back sequence = two back ++ two sequence
+
+-- zeros, the payload, and the trailer, whose `back` is the payload's length
+unfoldable pub areaSent : ℕ → List ℕ → ℕ → List ℕ
+areaSent A payload sequence = replicate (A - 4 - length payload) 0 ++ payload ++ trailer (length payload) sequence
+
+-- the first bytes are zeros
+unfoldable pub zerosBefore : ℕ → List ℕ → Bool
+zerosBefore end area = each end λ i. eqb (at area i) 0
+
+-- back ≤ A - 4, and zeros before the payload
+unfoldable pub trailerGood : ℕ → List ℕ → Bool
+trailerGood A area = leb (twoAt area (A - 4)) (A - 4) && zerosBefore (A - 4 - twoAt area (A - 4)) area
+
+-- the `back` bytes that end four before the end; none where there are not so many
+unfoldable pub payloadIn : ℕ → List ℕ → List ℕ
+payloadIn back area = if leb (back + 4) (length area) then take back (drop (length area - 4 - back) area) else []
+
+-- ---- sending
+
+-- each word is the encoding of its part of the area, and the words are interleaved
+unfoldable pub wordSent : Framing → List ℕ → ℕ → ℕ → List ℕ
+wordSent f payload sequence w = encoded (wordSetting f) (part (messageSize (wordSetting f)) w (areaSent (areaSize f) payload sequence))
+
+unfoldable pub slotsSent : Framing → List ℕ → ℕ → List ℕ
+slotsSent f payload sequence = spread (f .depth) (f .n) (joined (f .depth) (wordSent f payload sequence))
+
+-- what sending answers and leaves
+pub record SendOutcome : Type 0 where
+  pub number : ℕ
+  pub slots : List ℕ
+
+abbrev pub sentNumber : Sent → ℕ
+sentNumber S.Done = 0
+sentNumber S.BadSetting = 1
+sentNumber S.BadLength = 2
+sentNumber S.LongPayload = 6
+
+abbrev pub sendOutcome : Sent → List ℕ → SendOutcome
+sendOutcome d slots = record { number = sentNumber d; slots = slots }
+
+-- checked in the order 1, 2, 6; a refusal leaves the slots
+unfoldable pub sent : Framing → List ℕ → ℕ → List ℕ → SendOutcome
+sent f payload sequence slots =
+    if not (allowedFrame f) then record { number = 1; slots = slots } else
+    if not (eqb (length slots) (slotCount f)) then record { number = 2; slots = slots } else
+    if not (leb (length payload) (areaSize f - 4)) then record { number = 6; slots = slots } else
+    record { number = 0; slots = slotsSent f payload sequence }
+
+-- ---- receiving
+
+abbrev pub isNone : Option (List ℕ) → Bool
+isNone none = true
+isNone (some c) = false
+
+module _ (f : Framing) (marks slots : List ℕ) where
+  -- word w as received, its marks, and what it is corrected to
+  abbrev pub receivedWord : ℕ → List ℕ
+  receivedWord w = wordIn (f .depth) (f .n) slots w
+
+  abbrev pub receivedMarks : ℕ → List ℕ
+  receivedMarks w = wordIn (f .depth) (f .n) marks w
+
+  unfoldable pub correctedWord : ℕ → Option (List ℕ)
+  correctedWord w = corrected (wordSetting f) (receivedMarks w) (receivedWord w)
+
+  abbrev pub wordOf : ℕ → List ℕ
+  wordOf w = Option·getD (correctedWord w) []
+
+  -- its k message bytes, and its e, f and bits
+  unfoldable pub messageOf : ℕ → List ℕ
+  messageOf w = take (messageSize (wordSetting f)) (wordOf w)
+
+  unfoldable pub figuresAt : ℕ → Figures
+  figuresAt w = figures (receivedMarks w) (receivedWord w) (wordOf w)
+
+  -- the first word that is beyond reach; J where all are within
+  unfoldable pub beyond : ℕ
+  beyond = firstBelow (f .depth) λ w. isNone (correctedWord w)
+
+  -- the words' messages, word 0 first
+  unfoldable pub areaReceived : List ℕ
+  areaReceived = joined (f .depth) messageOf
+
+  -- the figures of each word, and zeros past J
+  unfoldable pub figuresReceived : List Figures
+  figuresReceived = tabulate 16 λ w. if ltb w (f .depth) then figuresAt w else noFigures
+
+-- what receiving answers and leaves
+pub record ReceiveOutcome : Type 0 where
+  pub number : ℕ
+  pub word : ℕ
+  pub sequence : ℕ
+  pub back : ℕ
+  pub figures : List Figures
+  pub area : List ℕ
+  pub payload : List ℕ
+
+abbrev pub refusedFrame : ℕ → ℕ → List ℕ → ReceiveOutcome
+refusedFrame k w area = record { number = k; word = w; sequence = 0; back = 0; figures = replicate 16 noFigures; area = area; payload = [] }
+
+-- a frame whose words are all within reach: 5, or what its trailer says
+unfoldable pub settled : ℕ → List Figures → List ℕ → ReceiveOutcome
+settled A figures area =
+    if not (trailerGood A area) then refusedFrame 5 0 (replicate A 0) else
+    record {
+      number = 0;
+      word = 0;
+      sequence = twoAt area (A - 2);
+      back = twoAt area (A - 4);
+      figures = figures;
+      area = area;
+      payload = payloadIn (twoAt area (A - 4)) area;
+    }
+
+-- a frame that passes the checks: 4 where a word is beyond reach
+unfoldable pub decodedFrame : Framing → List ℕ → List ℕ → ReceiveOutcome
+decodedFrame f marks slots =
+    if ltb (beyond f marks slots) (f .depth) then refusedFrame 4 (beyond f marks slots) (replicate (areaSize f) 0) else
+    settled (areaSize f) (figuresReceived f marks slots) (areaReceived f marks slots)
+
+-- checked in the order 1, 2, 3, 4, 5
+unfoldable pub received : Framing → List ℕ → List ℕ → List ℕ → ReceiveOutcome
+received f marks slots area =
+    if not (allowedFrame f) then refusedFrame 1 0 area else
+    if not (eqb (length slots) (slotCount f) && eqb (length marks) (slotCount f) && eqb (length area) (areaSize f)) then refusedFrame 2 0 area else
+    if not (below 2 marks) then refusedFrame 3 0 area else
+    decodedFrame f marks slots
+
+-- ---- the code's answer in this paper's terms
+
+abbrev pub numberOf : Verdict → ℕ
+numberOf Done = 0
+numberOf BadSetting = 1
+numberOf BadLength = 2
+numberOf BadMark = 3
+numberOf (BeyondReach w) = 4
+numberOf BadTrailer = 5
+
+-- the refused word, where the answer is 4
+abbrev pub wordNumber : Verdict → ℕ
+wordNumber Done = 0
+wordNumber BadSetting = 0
+wordNumber BadLength = 0
+wordNumber BadMark = 0
+wordNumber (BeyondReach w) = w
+wordNumber BadTrailer = 0
+
+abbrev pub isDone : Verdict → Bool
+isDone Done = true
+isDone BadSetting = false
+isDone BadLength = false
+isDone BadMark = false
+isDone (BeyondReach w) = false
+isDone BadTrailer = false
+
+-- a refusal has no numbers beside the verdict's own
+abbrev pub refusedWith : Verdict → Received
+refusedWith v = record { verdict = v; sequence = 0; back = 0; figures = replicate 16 noFigures }
+
+-- the part of the area that an answer hands back
+unfoldable pub payloadOf : Received → List ℕ → List ℕ
+payloadOf r area = if isDone (r .verdict) then payloadIn (r .back) area else []
+
+abbrev pub receiveOutcome : Received → List ℕ → List ℕ → ReceiveOutcome
+receiveOutcome r area payload =
+    record { number = numberOf (r .verdict); word = wordNumber (r .verdict); sequence = r .sequence; back = r .back; figures = r .figures; area = area; payload = payload }
+
+-- an answer with what it leaves in the area
+abbrev pub answered : Received → List ℕ → ReceiveOutcome
+answered r area = receiveOutcome r area (payloadOf r area)
+
+-- the whole area and the payload, as one call hands both back
+abbrev pub handedBack : ReceiveOutcome → List (List ℕ)
+handedBack o = o .area ∷ o .payload ∷ []
