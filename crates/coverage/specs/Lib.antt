@@ -7,6 +7,7 @@ pub mod Words
 pub mod FrameBack
 pub mod LineCalls
 pub mod LineBack
+pub mod CrossBack
 pub mod RunsCovered
 pub mod Proved
 pub mod Worked

@@ -80,11 +80,14 @@ module _ (s : Setting) (ok : T (allowed s)) (marks came : List ℕ) where
         let (x, y) = decode-once s marks came d (Done own) word sent e (decode-found s marks came checks sent own word-corrected refl) in
         (ap numberOf x, y)
 
+    -- what `decode_part` promises of it
+    pub part-given : (lent : List ℕ) → length lent ≡ messageSize s → outcome (Done (figures marks came sent)) (take (messageSize s) sent) ≡ decodedPart s marks came lent
+    part-given lent k = part-found s marks came lent k checks sent (figures marks came sent) word-corrected refl
+
     -- and every one that meets that of `decode_part` is Done, and leaves its message
     pub part-decoded : (d : Decoded) (lent part : List ℕ) → length lent ≡ messageSize s → outcome d part ≡ decodedPart s marks came lent → (numberOf d ≡ 0) × (part ≡ take (messageSize s) sent)
     part-decoded d lent part k e =
-        let own : Figures = figures marks came sent in
-        let (x, y) = decode-part-once s marks came lent d (Done own) part (take (messageSize s) sent) e (part-found s marks came lent k checks sent own word-corrected refl) in
+        let (x, y) = decode-part-once s marks came lent d (Done (figures marks came sent)) part (take (messageSize s) sent) e (part-given lent k) in
         (ap numberOf x, y)
 
   -- two codewords that may both come so are one

@@ -1,0 +1,51 @@
+-- `codes::open_inner` meets its contract: it is what `decode_part` promises of a part that holds the first 28 bytes of the word.
+-- Assumes nothing.
+use mathlib.Core.Path.{_≡_, ap, _∙_}
+use borrow.Author.Needs.{needs}
+use Rattle.rings.specs.Refusal.{ifZero}
+use Rattle.word.specs.Answers.{Outcome, outcome}
+use Rattle.cross.specs.Cross.{opened}
+use Rattle.cross.proofs.codes.open_inner.Statement.{statement}
+use Rattle.cross.proofs.codes.open_inner.Tie as tie
+
+copy-front-requires : tie.Need-copy-front-requires
+copy-front-requires c κs = search needs
+
+no-marks-requires : tie.Need-no-marks-requires
+no-marks-requires c κs = search needs
+
+inner-code-requires : tie.Need-inner-code-requires
+inner-code-requires c κs = search needs
+
+slice-aggregate-decode-part : tie.Need-slice-aggregate-decode-part
+slice-aggregate-decode-part c = search needs
+
+decode-part-requires : tie.Need-decode-part-requires
+decode-part-requires c κs = search needs
+
+mark-of-requires : tie.Need-mark-of-requires
+mark-of-requires c κs = search needs
+
+same-length : tie.Need-same-length
+same-length c = search needs
+
+returns : tie.Need-returns
+unfolding opened
+returns c =
+    let d = c .before .before .before .decode-part in
+    let e : outcome (d .result) (d .last .1 .1 .1 .0) ≡ opened (c .before .before .before .before .before .before .before .before .before .before .before .before .before .before .args .word .now) =
+    rw (c .before .before .before .before .before .before .inner-code .ensures, c .before .before .before .before .before .before .before .no-marks .ensures, c .before .before .before .before .before .before .before .before .before .before .copy-front .ensures, c .before .before .before .before .before .before .before .before .before .before .before .before .before .before .pre .1) at (d .ensures) in
+    (c .mark-of .ensures ∙ ap (λ (o : Outcome). ifZero (o .number) 0 1) e, ap (λ (o : Outcome). o .word) e)
+
+pub open-inner-spec : {M : Type 1} → statement M
+open-inner-spec =
+    tie.close
+    (tie.spec
+    copy-front-requires
+    no-marks-requires
+    inner-code-requires
+    slice-aggregate-decode-part
+    decode-part-requires
+    mark-of-requires
+    same-length
+    returns)

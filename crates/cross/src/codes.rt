@@ -1,0 +1,161 @@
+// The two codes of a cross line, as its sender and its receiver use them.
+ghost use mathlib.Core.Path.{_≡_};
+ghost use Prim.Native.Nat.{_≤_};
+ghost use lib.ListN.{length, replicate, take};
+ghost use Rattle.rings.specs.Refusal.{ifZero};
+ghost use Rattle.word.specs.Answers.{numberOf, figuresOf, noFigures};
+ghost use Rattle.cross.specs.Cross.{outerCode, innerCode, outerWord, innerWord, passedOn, markOf, closed, found};
+use rings::fill;
+use word::Decoded;
+use word::Figures;
+use word::Setting;
+use word::decode_part;
+use word::encode;
+
+// What the outer word of a frame was found to have: 0 with its figures, or 4 with none.
+pub struct Found {
+    pub answer: u8,
+    pub figures: Figures,
+}
+
+// The figures of a word that has none.
+pub fn no_figures() -> Figures
+    ensures { λ r. ⌜ r ≡ noFigures ⌝ }
+{
+    Figures {
+        errors: 0,
+        marked: 0,
+        bits: 0,
+    }
+}
+
+// The paper's number of a decoder's answer, and its figures.
+fn number_of(d: Decoded) -> u8
+    ensures { λ r. ⌜ r ≡ numberOf d ⌝ }
+{
+    match d {
+        Decoded::Done(_) => 0,
+        Decoded::BadSetting => 1,
+        Decoded::BadLength => 2,
+        Decoded::BadSymbol => 3,
+        Decoded::BeyondReach => 4,
+    }
+}
+
+fn figures_of(d: Decoded) -> Figures
+    ensures { λ r. ⌜ r ≡ figuresOf d ⌝ }
+{
+    match d {
+        Decoded::Done(figures) => figures,
+        Decoded::BadSetting => no_figures(),
+        Decoded::BadLength => no_figures(),
+        Decoded::BadSymbol => no_figures(),
+        Decoded::BeyondReach => no_figures(),
+    }
+}
+
+// The mark of the bytes that a word passes on: 1 where it is refused.
+fn mark_of(d: Decoded) -> u8
+    ensures { λ r. ⌜ r ≡ ifZero (numberOf d) 0 1 ⌝ }
+{
+    if number_of(d) != 0 {
+        return 1;
+    }
+    0
+}
+
+// 24 bytes and 4 check bytes.
+fn outer_code() -> Setting
+    ensures { λ r. ⌜ r ≡ outerCode ⌝ }
+{
+    Setting {
+        m: 8,
+        n: 28,
+        r: 4,
+        b: 0,
+    }
+}
+
+// 28 bytes and 4 check bytes.
+fn inner_code() -> Setting
+    ensures { λ r. ⌜ r ≡ innerCode ⌝ }
+{
+    Setting {
+        m: 8,
+        n: 32,
+        r: 4,
+        b: 0,
+    }
+}
+
+// The 28 bytes of a frame, all of one value. A call of its own keeps the array out of its callers' proofs.
+pub fn frame_of(value: u8) -> [u8; 28]
+    ensures { λ r. ⌜ r ≡ replicate 28 value ⌝ }
+{
+    [value; 28]
+}
+
+// Marks for an inner word: none of its bytes is known to be wrong.
+fn no_marks() -> [u8; 32]
+    ensures { λ r. ⌜ r ≡ replicate 32 0 ⌝ }
+{
+    [0; 32]
+}
+
+// The outer word of a message.
+pub fn outer_word(message: &[u8]) -> [u8; 28]
+    ensures { λ r. ⌜ (r ≡ outerWord (now (message .entry))) × (length r ≡ 28) ⌝ }
+{
+    let mut word = frame_of(0);
+    encode(outer_code(), message, &mut word);
+    word
+}
+
+// The inner word of the 28 bytes that are due.
+pub fn inner_word(bytes: &[u8], word: &mut [u8])
+    ensures { λ _. ⌜ now (word .exit) ≡ innerWord (now (bytes .entry)) (now (word .entry)) ⌝ }
+{
+    encode(inner_code(), bytes, word);
+}
+
+// The first bytes of a word.
+fn copy_front(word: &[u8], bytes: &mut [u8])
+    requires { ⌜ length (now bytes) ≤ length (now word) ⌝ }
+    ensures { λ _. ⌜ now (bytes .exit) ≡ take (length (now (bytes .entry))) (now (word .entry)) ⌝ }
+{
+    let mut i = 0;
+    while i < bytes.len() {
+        bytes[i] = word[i];
+        i += 1;
+    }
+}
+
+// The 28 bytes that an inner word passes on, and the mark of each: corrected and 0, or where the word is refused as received and 1.
+// Its check bytes are dropped.
+pub fn open_inner(word: &[u8], bytes: &mut [u8]) -> u8
+    requires { ⌜ (length (now word) ≡ 32) × (length (now bytes) ≡ 28) ⌝ }
+    ensures { λ r. ⌜ (r ≡ markOf (now (word .entry))) × (now (bytes .exit) ≡ passedOn (now (word .entry))) ⌝ }
+{
+    copy_front(word, bytes);
+    let marks = no_marks();
+    mark_of(decode_part(inner_code(), word, &marks, bytes))
+}
+
+// The message of an outer word with its marks: corrected, or zeros where the word is refused.
+pub fn close_outer(bytes: &[u8], marks: &[u8], message: &mut [u8]) -> Found
+    requires { ⌜ length (now message) ≡ 24 ⌝ }
+    ensures { λ r. ⌜ found r (now (message .exit)) ≡ closed (now (marks .entry)) (now (bytes .entry)) (now (message .entry)) ⌝ }
+{
+    let d = decode_part(outer_code(), bytes, marks, message);
+    if number_of(d) != 0 {
+        fill(message, 0);
+        return Found {
+            answer: 4,
+            figures: no_figures(),
+        };
+    }
+    Found {
+        answer: 0,
+        figures: figures_of(d),
+    }
+}
