@@ -3,8 +3,11 @@ ghost use mathlib.Core.Path.{_≡_};
 ghost use Prim.Native.Nat.{_≤_};
 ghost use lib.ListN.{length, replicate, take};
 ghost use Rattle.rings.specs.Refusal.{ifZero};
-ghost use Rattle.word.specs.Answers.{numberOf, figuresOf, noFigures};
+ghost use Rattle.word.specs.Answers.{numberOf};
 ghost use Rattle.cross.specs.Cross.{outerCode, innerCode, outerWord, innerWord, passedOn, markOf, closed, found};
+use answers::figures_of;
+use answers::no_figures;
+use answers::number_of;
 use rings::fill;
 use word::Decoded;
 use word::Figures;
@@ -16,42 +19,6 @@ use word::encode;
 pub struct Found {
     pub answer: u8,
     pub figures: Figures,
-}
-
-// The figures of a word that has none.
-pub fn no_figures() -> Figures
-    ensures { λ r. ⌜ r ≡ noFigures ⌝ }
-{
-    Figures {
-        errors: 0,
-        marked: 0,
-        bits: 0,
-    }
-}
-
-// The paper's number of a decoder's answer, and its figures.
-fn number_of(d: Decoded) -> u8
-    ensures { λ r. ⌜ r ≡ numberOf d ⌝ }
-{
-    match d {
-        Decoded::Done(_) => 0,
-        Decoded::BadSetting => 1,
-        Decoded::BadLength => 2,
-        Decoded::BadSymbol => 3,
-        Decoded::BeyondReach => 4,
-    }
-}
-
-fn figures_of(d: Decoded) -> Figures
-    ensures { λ r. ⌜ r ≡ figuresOf d ⌝ }
-{
-    match d {
-        Decoded::Done(figures) => figures,
-        Decoded::BadSetting => no_figures(),
-        Decoded::BadLength => no_figures(),
-        Decoded::BadSymbol => no_figures(),
-        Decoded::BeyondReach => no_figures(),
-    }
 }
 
 // The mark of the bytes that a word passes on: 1 where it is refused.

@@ -1,12 +1,11 @@
 // The receiver's whole call: document 01, sections Block interleaver and frame, and Receiver's record. A frame is received, and what it
 // was answered is noted in the record, so that no caller notes another number. What each call promises is defined in specs/Receiver.antt.
 ghost use mathlib.Core.Path.{_≡_};
-ghost use Rattle.frame.specs.Frame.{numberOf};
 ghost use Rattle.link.specs.Receiver.{heard, hearOutcome};
 use crate::receiving::receive;
+use frame::numbers::number_of;
 use frame::setting::Framing;
 use frame::setting::Received;
-use frame::setting::Verdict;
 use record::Record;
 use record::note;
 
@@ -14,20 +13,6 @@ use record::note;
 pub struct Heard {
     pub next: Record,
     pub answer: Received,
-}
-
-// The paper's number of a frame's verdict.
-pub fn number_of(verdict: Verdict) -> u8
-    ensures { λ r. ⌜ r ≡ numberOf verdict ⌝ }
-{
-    match verdict {
-        Verdict::Done => 0,
-        Verdict::BadSetting => 1,
-        Verdict::BadLength => 2,
-        Verdict::BadMark => 3,
-        Verdict::BeyondReach(_) => 4,
-        Verdict::BadTrailer => 5,
-    }
 }
 
 // Receives a frame into the lent area as `receive` does, and notes its number and its sequence number in the record.

@@ -1,11 +1,9 @@
 // The first four bytes of the input: the frame's setting.
 ghost use mathlib.Core.Path.{_≡_};
-ghost use Prim.Native.Nat.{_≤_, _<_};
+ghost use Prim.Native.Nat.{_≤_};
 ghost use lib.ListN.{length};
-ghost use Rattle.frame.specs.Frame.{numberOf};
 ghost use Rattle.reader.specs.Spoken.{framingOf, wantedOf};
 use link::Framing;
-use link::Verdict;
 use link::is_allowed;
 
 // A byte as a size.
@@ -25,20 +23,6 @@ pub fn framing(input: &[u8]) -> Framing
         n: wide(input[1]),
         r: wide(input[2]),
         b: wide(input[3]),
-    }
-}
-
-// The number of a verdict.
-pub fn number_of(verdict: Verdict) -> usize
-    ensures { λ r. ⌜ (r ≡ numberOf verdict) × (r < 6) ⌝ }
-{
-    match verdict {
-        Verdict::Done => 0,
-        Verdict::BadSetting => 1,
-        Verdict::BadLength => 2,
-        Verdict::BadMark => 3,
-        Verdict::BeyondReach(_) => 4,
-        Verdict::BadTrailer => 5,
     }
 }
 

@@ -7,9 +7,9 @@ ghost use Rattle.frame.specs.Frame.Limits.{FrameAllowed};
 ghost use Rattle.reader.specs.Put.{Put};
 ghost use Rattle.reader.specs.Spoken.{blank, answerTo, told, textLeft, reported};
 use crate::head::framing;
-use crate::head::number_of;
 use crate::lines::put_frame;
 use crate::lines::put_refusal;
+use frame::numbers::number_of;
 use link::Framing;
 use link::is_allowed;
 
@@ -27,7 +27,7 @@ fn put_answer(f: Framing, slots: &[u8], marks: &[u8], area: &mut [u8], text: &mu
 {
     let answer = link::receive(f, slots, marks, area);
     let verdict = answer.verdict;
-    let number = number_of(verdict);
+    let number = number_of(verdict) as usize;
     if number != 0 {
         return put_refusal(number, text);
     }
