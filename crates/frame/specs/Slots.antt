@@ -1,16 +1,16 @@
 -- Document 01, "Block interleaver and frame": byte i of word w goes to slot i·J + w. A frame's words are read from their slots, and
 -- written to them, one at a time. The rule itself is the block interleaver's.
 -- Assumes nothing.
-use mathlib.Core.Path.{_≡_, refl, sym, ap, _∙_}
+use mathlib.Core.Path.{_≡_, refl, sym, ap, _∙_, subst}
 use mathlib.Core.Bool.{Bool, true, false}
-use mathlib.Core.List.{List}
+use mathlib.Core.List.{List, _++_}
 use Prim.Native.Nat.{ℕ, _+_, _*_, _/_, _%_, _≤_, _<_}
 use native.Mathlib.Nat.{not-suc-le-zero, div-add-mod', div-lt-iff-lt-mul, mod-lt}
 use native.Mathlib.Decide.{ℕ-discrete}
 use native.Mathlib.Omega.{arith}
 use borrow.Author.Count.{below-more}
-use lib.ListN.{length, set, length-set}
-use lib.Seq.{getD-set-same, getD-set-other}
+use lib.ListN.{length, set, take, drop, length-set, length-append, length-drop}
+use lib.Seq.{getD-set-same, getD-set-other, take-at, length-take-le}
 use lib.Dec.{T}
 use Rattle.algebra.specs.Tests.{at, below, below-at, below-all, passed}
 use Rattle.algebra.specs.Lists.{tabulate, length-tabulate, getD-tabulate, tabulated, Filled, filled-none, filled-more, filled-all}
@@ -88,6 +88,14 @@ copying-all n f s t h p = record {
   entries = filled-all n f s t h (p .filled);
   small = below-all 256 t λ i u. let e = p .filled .size in rw (p .filled .first i (omega arith)) (p .bytes i (omega arith));
 }
+
+-- a filled part in front of an array is what its front holds
+pub copied-front : (n : ℕ) (f : ℕ → ℕ) (old t : List ℕ) → n ≤ length old → Copied (length (take n old)) f t → Copied n f (take n (t ++ drop n old)) × (length (t ++ drop n old) ≡ length old)
+copied-front n f old t h c =
+    let front : length (take n old) ≡ n = length-take-le n old h in
+    let size : length t ≡ n = ap length (c .entries) ∙ length-tabulate _ _ ∙ front in
+    let own : Copied n f t = subst (λ (z : ℕ). Copied z f t) front c in
+    (subst (Copied n f) (sym (take-at t (drop n old) n size)) own, simp (length-append, length-drop) (omega (arith, size)))
 
 -- ---- a loop that writes a word to its slots
 

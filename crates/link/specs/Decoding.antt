@@ -12,11 +12,11 @@ use borrow.Author.Tests.{lt-ltb, le-ltb}
 use borrow.Author.Count.{below-more}
 use lib.ListN.{length, getD, set, take, drop, replicate, length-append, length-take, length-drop, length-set}
 use lib.Seq.{take-at, drop-at, drop-drop, drop-length, getD-set-same, getD-set-other}
-use lib.Dec.{T, ltb}
+use lib.Dec.{T, eqb, ltb}
 use Rattle.algebra.specs.Tests.{if_then_else_, at, below, below-at, below-all, passed, first-none, first-is}
 use Rattle.algebra.specs.Lists.{tabulate, tabulated}
 use Rattle.word.specs.Setting.{allowed, messageSize, allowed-yes}
-use Rattle.word.specs.Answers.{noFigures, figures, outcome, decodedPart, sized, proper, refusal}
+use Rattle.word.specs.Answers.{numberOf, figuresOf, noFigures, figures, outcome, decodedPart, sized, proper, refusal}
 use Rattle.word.specs.Answers.Laws.{part-found, part-lost, decode-part-once, refusal-none, sized-both}
 use Rattle.word.specs.declared.Figures.{Figures}
 use Rattle.word.specs.declared.Decoded.{Decoded}
@@ -31,16 +31,9 @@ use Rattle.link.specs.declared.receiving.Words.{Words}
 
 -- ---- one word
 
-abbrev pub notFound : Found
-notFound = record { accepted = false; figures = noFigures }
-
 -- a word's answer without its reason
 abbrev pub foundOf : Decoded → Found
-foundOf (D.Done figures) = record { accepted = true; figures = figures }
-foundOf D.BadSetting = notFound
-foundOf D.BadLength = notFound
-foundOf D.BadSymbol = notFound
-foundOf D.BeyondReach = notFound
+foundOf d = record { accepted = eqb (numberOf d) 0; figures = figuresOf d }
 
 -- what has been checked before a frame is decoded
 pub record FrameChecked (f : Framing) (slots marks : List ℕ) (area : ℕ) : Type 0 where
@@ -50,21 +43,13 @@ pub record FrameChecked (f : Framing) (slots marks : List ℕ) (area : ℕ) : Ty
   pub marks-small : T (below 2 marks)
   pub area-size : area ≡ areaSize f
 
--- with work space for a word and its marks
-pub record FrameGiven (f : Framing) (slots marks : List ℕ) (word marked area : ℕ) : Type 0 where
-  pub checked : FrameChecked f slots marks area
-  pub word-size : word ≡ f .n
-  pub marked-size : marked ≡ f .n
-
 -- and before word w is
-pub record WordGiven (f : Framing) (w : ℕ) (slots marks : List ℕ) (word marked part : ℕ) : Type 0 where
+pub record WordGiven (f : Framing) (w : ℕ) (slots marks : List ℕ) (part : ℕ) : Type 0 where
   pub limits : FrameAllowed f
   pub turn : w < f .depth
   pub slots-size : length slots ≡ slotCount f
   pub marks-size : length marks ≡ slotCount f
   pub marks-small : T (below 2 marks)
-  pub word-size : word ≡ f .n
-  pub marked-size : marked ≡ f .n
   pub part-size : part ≡ messageSize (wordSetting f)
 
 -- word w is decoded: its message is in its part, or it is beyond reach
@@ -75,7 +60,7 @@ pub record Decodes (f : Framing) (marks slots : List ℕ) (w : ℕ) (r : Found) 
 differ : {A : Type 0} → true ≡ false → A
 differ e = let z : _≡_ {A = ℕ} 0 1 = cc in absurd (omega arith)
 
-module _ (f : Framing) (w : ℕ) (slots marks part : List ℕ) (g : WordGiven f w slots marks (f .n) (f .n) (length part)) (small : T (below 256 (receivedWord f marks slots w))) where
+module _ (f : Framing) (w : ℕ) (slots marks part : List ℕ) (g : WordGiven f w slots marks (length part)) (small : T (below 256 (receivedWord f marks slots w))) where
   marks-small : T (below 2 (receivedMarks f marks slots w))
   marks-small = below-all 2 (receivedMarks f marks slots w) λ i l.
       rw (place-rule (f .depth) (f .n) marks i w (omega (arith, length-wordIn (f .depth) (f .n) marks w))) (below-at 2 marks (g .marks-small) (i * f .depth + w) (omega arith))
@@ -106,24 +91,12 @@ module _ (f : Framing) (w : ℕ) (slots marks part : List ℕ) (g : WordGiven f 
       rw x (record { found = λ z. differ (sym z); lost = λ _. rw e })
 
 -- word w and its marks, taken from their slots, with what the decoder says of them
-pub word-decoded : (f : Framing) (w : ℕ) (slots marks : List ℕ) (n m k : ℕ) → WordGiven f w slots marks n m k → (word marked part after : List ℕ) (d : Decoded) → length part ≡ k
-    → Copied n (slotByte (f .depth) w slots) word → Copied m (slotByte (f .depth) w marks) marked
+pub word-decoded : (f : Framing) (w : ℕ) (slots marks part : List ℕ) → WordGiven f w slots marks (length part) → (word marked after : List ℕ) (d : Decoded)
+    → Copied (f .n) (slotByte (f .depth) w slots) word → Copied (f .n) (slotByte (f .depth) w marks) marked
     → outcome d after ≡ decodedPart (wordSetting f) marked word part → Decodes f marks slots w (foundOf d) after
 unfolding wordIn
-word-decoded f w slots marks n m k g word marked part after d size p q e =
-    let x : word ≡ receivedWord f marks slots w = p .entries ∙ ap (λ (z : ℕ). tabulate z (slotByte (f .depth) w slots)) (g .word-size) in
-    let y : marked ≡ receivedMarks f marks slots w = q .entries ∙ ap (λ (z : ℕ). tabulate z (slotByte (f .depth) w marks)) (g .marked-size) in
-    let h : WordGiven f w slots marks (f .n) (f .n) (length part) = record {
-      limits = g .limits;
-      turn = g .turn;
-      slots-size = g .slots-size;
-      marks-size = g .marks-size;
-      marks-small = g .marks-small;
-      word-size = refl;
-      marked-size = refl;
-      part-size = size ∙ g .part-size;
-    } in
-    decides f w slots marks part h (subst (λ (l : List ℕ). T (below 256 l)) x (p .small)) d after (rw (x, y) at e) (correctedWord f marks slots w) refl
+word-decoded f w slots marks part g word marked after d p q e =
+    decides f w slots marks part g (subst (λ (l : List ℕ). T (below 256 l)) (p .entries) (p .small)) d after (rw (p .entries, q .entries) at e) (correctedWord f marks slots w) refl
 
 -- ---- the loop
 

@@ -27,7 +27,7 @@ use Rattle.frame.specs.Frame.{allowedFrame, areaSent, wordSent, slotsSent, sent
 use Rattle.frame.specs.declared.setting.Framing.{Framing}
 
 -- J = 2, n = 5, r = 2, b = 0
-abbrev example : Framing
+abbrev pub example : Framing
 example = record { depth = 2; n = 5; r = 2; b = 0 }
 
 abbrev five : Setting
@@ -47,39 +47,42 @@ encoded-1 : encoded five (0 ∷ 2 ∷ 1 ∷ []) ≡ 0 ∷ 2 ∷ 1 ∷ 13 ∷ 14 
 unfolding below isCodeword each valueFrom _⊕_ times reduce product power
 encoded-1 = encoded-only five allowed-five (0 ∷ 2 ∷ 1 ∷ []) refl (13 ∷ 14 ∷ []) tt
 
-pub sent-example : sent example (65 ∷ []) 258 (replicate 10 0) ≡ record { number = 0; slots = 0 ∷ 0 ∷ 65 ∷ 2 ∷ 1 ∷ 1 ∷ 217 ∷ 13 ∷ 153 ∷ 14 ∷ [] }
+abbrev pub slotsOut : List ℕ
+slotsOut = 0 ∷ 0 ∷ 65 ∷ 2 ∷ 1 ∷ 1 ∷ 217 ∷ 13 ∷ 153 ∷ 14 ∷ []
+
+pub sent-example : sent example (65 ∷ []) 258 (replicate 10 0) ≡ record { number = 0; slots = slotsOut }
 unfolding sent allowedFrame allowed isField slotsSent wordSent areaSent joined transposed tabulate
 sent-example = rw (encoded-0, encoded-1)
 
 -- ---- received: slots 2 and 3 were 65 and 2
 
-abbrev slots : List ℕ
-slots = 0 ∷ 0 ∷ 0 ∷ 0 ∷ 1 ∷ 1 ∷ 217 ∷ 13 ∷ 153 ∷ 14 ∷ []
+abbrev pub slotsIn : List ℕ
+slotsIn = 0 ∷ 0 ∷ 0 ∷ 0 ∷ 1 ∷ 1 ∷ 217 ∷ 13 ∷ 153 ∷ 14 ∷ []
 
 abbrev figures : ℕ → ℕ → ℕ → Figures
 figures e f k = record { errors = e; marked = f; bits = k }
 
-corrected-0 : correctedWord example (replicate 10 0) slots 0 ≡ some (0 ∷ 65 ∷ 1 ∷ 217 ∷ 153 ∷ [])
+corrected-0 : correctedWord example (replicate 10 0) slotsIn 0 ≡ some (0 ∷ 65 ∷ 1 ∷ 217 ∷ 153 ∷ [])
 unfolding correctedWord wordIn tabulate below qualifies isCodeword each valueFrom errorOf errors marked total _⊕_ times reduce product power
 corrected-0 = corrected-only five allowed-five (replicate 5 0) (0 ∷ 0 ∷ 1 ∷ 217 ∷ 153 ∷ []) refl (0 ∷ 65 ∷ 1 ∷ 217 ∷ 153 ∷ []) tt
 
-corrected-1 : correctedWord example (replicate 10 0) slots 1 ≡ some (0 ∷ 2 ∷ 1 ∷ 13 ∷ 14 ∷ [])
+corrected-1 : correctedWord example (replicate 10 0) slotsIn 1 ≡ some (0 ∷ 2 ∷ 1 ∷ 13 ∷ 14 ∷ [])
 unfolding correctedWord wordIn tabulate below qualifies isCodeword each valueFrom errorOf errors marked total _⊕_ times reduce product power
 corrected-1 = corrected-only five allowed-five (replicate 5 0) (0 ∷ 0 ∷ 1 ∷ 13 ∷ 14 ∷ []) refl (0 ∷ 2 ∷ 1 ∷ 13 ∷ 14 ∷ []) tt
 
-within-reach : beyond example (replicate 10 0) slots ≡ 2
+within-reach : beyond example (replicate 10 0) slotsIn ≡ 2
 unfolding beyond firstBelow
 within-reach = rw (corrected-0, corrected-1)
 
-area : areaReceived example (replicate 10 0) slots ≡ 0 ∷ 65 ∷ 1 ∷ 0 ∷ 2 ∷ 1 ∷ []
+area : areaReceived example (replicate 10 0) slotsIn ≡ 0 ∷ 65 ∷ 1 ∷ 0 ∷ 2 ∷ 1 ∷ []
 unfolding areaReceived joined messageOf
 area = rw (corrected-0, corrected-1)
 
-found : figuresReceived example (replicate 10 0) slots ≡ figures 1 0 2 ∷ figures 1 0 1 ∷ replicate 14 noFigures
+found : figuresReceived example (replicate 10 0) slotsIn ≡ figures 1 0 2 ∷ figures 1 0 1 ∷ replicate 14 noFigures
 unfolding figuresReceived figuresAt wordIn tabulate errorOf errors marked bits total ones onesIn _⊕_
 found = rw (corrected-0, corrected-1)
 
-pub received-example : received example (replicate 10 0) slots (replicate 6 0) ≡ record {
+pub received-example : received example (replicate 10 0) slotsIn (replicate 6 0) ≡ record {
   number = 0;
   word = 0;
   sequence = 258;

@@ -3,16 +3,17 @@ ghost use mathlib.Core.Path.{_≡_};
 ghost use mathlib.Core.List.{map};
 ghost use Prim.Native.Nat.{_≤_};
 ghost use lib.ListN.{length};
-ghost use Rattle.word.specs.Answers.{noFigures};
 ghost use Rattle.frame.specs.Frame.{answered, refusedWith, settled, decodedFrame, received, handedBack};
-ghost use Rattle.link.specs.Decoding.{notFound, foundOf, Decodes, WordGiven, FrameChecked, FrameGiven, Collected};
+ghost use Rattle.link.specs.Decoding.{foundOf, Decodes, WordGiven, FrameChecked, Collected};
+use answers::figures_of;
+use answers::no_figures;
+use answers::number_of;
 use frame::setting::Framing;
 use frame::setting::Received;
 use frame::setting::Verdict;
 use frame::setting::is_allowed;
 use frame::setting::words_of;
 use frame::slots::take_word;
-use frame::slots::work_space;
 use frame::trailer::is_good;
 use frame::trailer::payload;
 use frame::trailer::two_at;
@@ -33,80 +34,37 @@ pub struct Words {
     pub figures: [Figures; 16],
 }
 
-// The figures of a word that has none.
-fn no_figures() -> Figures
-    ensures { λ r. ⌜ r ≡ noFigures ⌝ }
-{
-    Figures {
-        errors: 0,
-        marked: 0,
-        bits: 0,
-    }
-}
-
-// A refused word.
-fn not_found() -> Found
-    ensures { λ r. ⌜ r ≡ notFound ⌝ }
-{
-    let figures = no_figures();
-    Found {
-        accepted: false,
-        figures,
-    }
-}
-
 // A word's answer without its reason: a frame tells only which word failed.
 fn without_reason(d: Decoded) -> Found
     ensures { λ r. ⌜ r ≡ foundOf d ⌝ }
 {
-    match d {
-        Decoded::Done(figures) => Found {
-            accepted: true,
-            figures,
-        },
-        Decoded::BadSetting => not_found(),
-        Decoded::BadLength => not_found(),
-        Decoded::BadSymbol => not_found(),
-        Decoded::BeyondReach => not_found(),
+    Found {
+        accepted: number_of(d) == 0,
+        figures: figures_of(d),
     }
 }
 
-// Decodes word w into its part of the area. The two buffers are work space for the word and its marks.
-fn receive_word(
-    f: Framing,
-    w: usize,
-    slots: &[u8],
-    marks: &[u8],
-    word: &mut [u8],
-    marked: &mut [u8],
-    part: &mut [u8],
-) -> Found
-    requires { ⌜ WordGiven f w (now slots) (now marks) (length (now word)) (length (now marked)) (length (now part)) ⌝ }
+// Decodes word w into its part of the area.
+fn receive_word(f: Framing, w: usize, slots: &[u8], marks: &[u8], part: &mut [u8]) -> Found
+    requires { ⌜ WordGiven f w (now slots) (now marks) (length (now part)) ⌝ }
     ensures { λ r. ⌜ Decodes f (now (marks .entry)) (now (slots .entry)) w r (now (part .exit)) ⌝ }
 {
-    take_word(f.depth, w, slots, word);
-    take_word(f.depth, w, marks, marked);
-    let d = word::decode_part(words_of(f), word, marked, part);
+    let word = take_word(f.depth, f.n, w, slots);
+    let marked = take_word(f.depth, f.n, w, marks);
+    let d = word::decode_part(words_of(f), &word[..f.n], &marked[..f.n], part);
     without_reason(d)
 }
 
 // Decodes each word into its part of the area, up to the first that is refused.
-fn receive_words(
-    f: Framing,
-    slots: &[u8],
-    marks: &[u8],
-    word: &mut [u8],
-    marked: &mut [u8],
-    area: &mut [u8],
-) -> Words
-    requires { ⌜ FrameGiven f (now slots) (now marks) (length (now word)) (length (now marked)) (length (now area)) ⌝ }
+fn receive_words(f: Framing, slots: &[u8], marks: &[u8], area: &mut [u8]) -> Words
+    requires { ⌜ FrameChecked f (now slots) (now marks) (length (now area)) ⌝ }
     ensures { λ r. ⌜ Collected f (now (marks .entry)) (now (slots .entry)) r (now (area .exit)) ⌝ }
 {
     let k = f.n - f.r;
     let mut figures = [no_figures(); 16];
     for w in 0..f.depth {
         let a = w * k;
-        let found = receive_word(f, w, slots, marks, word, marked, &mut area[a..a + k]);
+        let found = receive_word(f, w, slots, marks, &mut area[a..a + k]);
         if !found.accepted {
             return Words {
                 accepted: w,
@@ -158,9 +116,7 @@ fn receive_checked(f: Framing, slots: &[u8], marks: &[u8], area: &mut [u8]) -> R
     requires { ⌜ FrameChecked f (now slots) (now marks) (length (now area)) ⌝ }
     ensures { λ r. ⌜ answered r (now (area .exit)) ≡ decodedFrame f (now (marks .entry)) (now (slots .entry)) ⌝ }
 {
-    let mut word = work_space();
-    let mut marked = work_space();
-    let words = receive_words(f, slots, marks, &mut word[..f.n], &mut marked[..f.n], area);
+    let words = receive_words(f, slots, marks, area);
     if words.accepted < f.depth {
         fill(area, 0);
         return refused(Verdict::BeyondReach(words.accepted as u8));

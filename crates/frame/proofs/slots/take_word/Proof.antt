@@ -1,67 +1,38 @@
--- `slots::take_word` meets its contract. The loop's invariant: the first i bytes of the word are those of its slots.
+-- `slots::take_word` meets its contract: the front of the array is what `copy_word` left there.
 -- Assumes nothing.
-use mathlib.Core.Path.{refl}
-use Prim.Native.Nat.{_+_, _-_, _*_, _<_}
+use mathlib.Core.Path.{_≡_, sym, ap, _∙_}
+use Prim.Native.Nat.{ℕ, _*_, _≤_}
 use native.Mathlib.Omega.{arith}
-use lib.ListN.{length, getD}
-use Rattle.frame.specs.Slots.{slotByte, in-slots, Copying, copying-none, copying-more, copying-all}
+use borrow.Author.Needs.{needs}
+use lib.ListN.{length, take}
+use lib.Seq.{length-take-le}
+use Rattle.frame.specs.Slots.{copied-front}
 use Rattle.frame.proofs.slots.take_word.Statement.{statement}
 use Rattle.frame.proofs.slots.take_word.Tie as tie
 
-abbrev Inv-loop : tie.InvT-loop
-Inv-loop depth w slots word₀ i₀ word i = Copying (length word₀) (slotByte depth w slots) i word
+work-space-requires : tie.Need-work-space-requires
+work-space-requires c κs = search needs
 
-abbrev μ-loop : tie.MeasureT-loop
-μ-loop depth w slots word₀ i₀ word i = length word₀ - i
+array-borrow-prefix-word : tie.Need-array-borrow-prefix-word
+array-borrow-prefix-word c = search needs
 
-loop-holds : tie.Need-loop-holds Inv-loop μ-loop
-loop-holds c = copying-none _ _ _ refl
+slice-aggregate-copy-word : tie.Need-slice-aggregate-copy-word
+slice-aggregate-copy-word c =
+    let room : c .before .before .before .args .n ≤ length (c .before .work-space .result) = omega (arith, c .before .before .before .pre .2, c .before .work-space .ensures) in
+    sym (length-take-le _ _ room)
 
-mul-word : tie.Need-mul-word Inv-loop μ-loop
-mul-word c = omega (arith, in-slots (c .before .loop .i) _ _ _ _ (omega (arith, c .before .loop .inv .filled .size)) (c .before .before .pre .0) (c .before .before .pre .3))
+copy-word-requires : tie.Need-copy-word-requires
+copy-word-requires c κs =
+    let given = c .before .before .before .pre in
+    let room : c .before .before .before .args .n ≤ length (c .before .work-space .result) = omega (arith, given .2, c .before .work-space .ensures) in
+    let size : length (take (c .before .before .before .args .n) (c .before .work-space .result)) ≡ c .before .before .before .args .n = length-take-le _ _ room in
+    (given .0, given .1, omega (arith, given .2, size), given .3 ∙ ap (λ (z : ℕ). z * c .before .before .before .args .depth) (sym size))
 
-add-word : tie.Need-add-word Inv-loop μ-loop
-add-word c = omega (arith, in-slots (c .before .loop .i) _ _ _ _ (omega (arith, c .before .loop .inv .filled .size)) (c .before .before .pre .0) (c .before .before .pre .3))
-
-shared-slice-read-word : tie.Need-shared-slice-read-word Inv-loop μ-loop
-shared-slice-read-word c = omega (arith, in-slots (c .before .before .loop .i) _ _ _ _ (omega (arith, c .before .before .loop .inv .filled .size)) (c .before .before .before .pre .0) (c .before .before .before .pre .3))
-
-slice-write-word : tie.Need-slice-write-word Inv-loop μ-loop
-slice-write-word c = omega arith
-
-add-i : tie.Need-add-i Inv-loop μ-loop
-add-i c = omega (arith, c .before .before .loop .inv .filled .size)
-
-loop-less : tie.Need-loop-less Inv-loop μ-loop
-loop-less c = omega (arith, c .before .before .loop .inv .filled .size)
-
-loop-again : tie.Need-loop-again Inv-loop μ-loop
-loop-again c =
-    let slots = c .before .before .before .args .slots .now in
-    let i = c .before .before .loop .i in
-    let from = i * c .before .before .before .args .depth + c .before .before .before .args .w in
-    let byte : getD slots from 0 < 256 = omega (arith, c .shared-slice-known .given from) in
-    copying-more _ _ _ _ _ (omega (arith, c .before .before .loop .inv .filled .size)) refl byte (c .before .before .loop .inv)
-
-same-length : tie.Need-same-length Inv-loop μ-loop
-same-length c = c .before .loop .inv .filled .size
-
-returns : tie.Need-returns Inv-loop μ-loop
-returns c = copying-all _ _ _ _ (omega (arith, c .before .loop .inv .filled .size)) (c .before .loop .inv)
+returns : tie.Need-returns
+returns c =
+    let room : c .before .before .before .before .before .args .n ≤ length (c .before .before .before .work-space .result) = omega (arith, c .before .before .before .before .before .pre .2, c .before .before .before .work-space .ensures) in
+    let (front, whole) = copied-front _ _ _ _ room (c .before .copy-word .ensures) in
+    (front, whole ∙ c .before .before .before .work-space .ensures)
 
 pub take-word-spec : {M : Type 1} → statement M
-take-word-spec =
-    tie.close
-    (tie.spec
-    Inv-loop
-    μ-loop
-    loop-holds
-    mul-word
-    add-word
-    shared-slice-read-word
-    slice-write-word
-    add-i
-    loop-less
-    loop-again
-    same-length
-    returns)
+take-word-spec = tie.close (tie.spec work-space-requires array-borrow-prefix-word slice-aggregate-copy-word copy-word-requires returns)

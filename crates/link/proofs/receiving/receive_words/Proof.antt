@@ -1,7 +1,7 @@
 -- `receiving::receive_words` meets its contract. The loop's invariant: w words are accepted, their messages stand in the area one after the
 -- other, and the rest of the area is as it was.
 -- Assumes nothing.
-use mathlib.Core.Path.{_≡_, sym, _∙_}
+use mathlib.Core.Path.{_≡_, _∙_}
 use Prim.Native.Nat.{ℕ, _+_, _-_, _*_}
 use native.Mathlib.Omega.{arith}
 use borrow.Author.Needs.{needs}
@@ -13,35 +13,35 @@ use Rattle.link.proofs.receiving.receive_words.Statement.{statement}
 use Rattle.link.proofs.receiving.receive_words.Tie as tie
 
 abbrev Inv-loop : tie.InvT-loop
-Inv-loop f slots marks word₀ marked₀ area₀ k figures₀ w₀ w-end word marked area figures w = Collecting f marks slots area₀ w area figures × (length word ≡ f .n) × (length marked ≡ f .n)
+Inv-loop f slots marks area₀ k figures₀ w₀ w-end area figures w = Collecting f marks slots area₀ w area figures
 
 abbrev μ-loop : tie.MeasureT-loop
-μ-loop f slots marks word₀ marked₀ area₀ k figures₀ w₀ w-end word marked area figures w = f .depth - w
+μ-loop f slots marks area₀ k figures₀ w₀ w-end area figures w = f .depth - w
 
 sub-k : tie.Need-sub-k Inv-loop μ-loop
-sub-k c = omega (arith, c .before .before .before .before .before .before .pre .checked .limits .words .room)
+sub-k c = omega (arith, c .before .before .before .before .pre .limits .words .room)
 
 no-figures-requires : tie.Need-no-figures-requires Inv-loop μ-loop
 no-figures-requires c κs = search needs
 
 loop-holds : tie.Need-loop-holds Inv-loop μ-loop
-loop-holds c = rw (c .no-figures .ensures) (collecting-none _ _ _ _ (c .before .before .before .before .before .before .before .pre .checked .area-size), c .before .before .before .before .before .before .before .pre .word-size, c .before .before .before .before .before .before .before .pre .marked-size)
+loop-holds c = rw (c .no-figures .ensures) (collecting-none _ _ _ _ (c .before .before .before .before .before .pre .area-size))
 
 mul-a : tie.Need-mul-a Inv-loop μ-loop
 mul-a c =
-    let given = c .before .before .before .before .before .before .before .before .before .pre in
-    let inv = c .before .loop .inv .0 in
+    let given = c .before .before .before .before .before .before .before .pre in
+    let inv = c .before .loop .inv in
     let room = fits _ _ _ _ _ _ _ inv (c .loop-test .taken) in
     let size = same _ _ _ _ _ _ _ inv in
-    omega (arith, area-few _ (given .checked .limits), given .checked .area-size)
+    omega (arith, area-few _ (given .limits), given .area-size)
 
 add-receive-word : tie.Need-add-receive-word Inv-loop μ-loop
 add-receive-word c =
-    let given = c .before .before .before .before .before .before .before .before .before .before .before .pre in
-    let inv = c .before .before .before .loop .inv .0 in
-    let room = fits _ _ _ _ _ _ _ inv (c .before .before .loop-test .taken) in
+    let given = c .before .before .before .before .before .before .before .pre in
+    let inv = c .before .loop .inv in
+    let room = fits _ _ _ _ _ _ _ inv (c .loop-test .taken) in
     let size = same _ _ _ _ _ _ _ inv in
-    omega (arith, area-few _ (given .checked .limits), given .checked .area-size)
+    omega (arith, area-few _ (given .limits), given .area-size)
 
 sub-receive-word : tie.Need-sub-receive-word Inv-loop μ-loop
 sub-receive-word c = search needs
@@ -50,89 +50,65 @@ part-receive-word-start : tie.Need-part-receive-word-start Inv-loop μ-loop
 part-receive-word-start c = search needs
 
 part-receive-word-end : tie.Need-part-receive-word-end Inv-loop μ-loop
-part-receive-word-end c =
-    let inv = c .before .before .before .loop .inv .0 in
-    let room = fits _ _ _ _ _ _ _ inv (c .before .before .loop-test .taken) in
-    room
+part-receive-word-end c = fits _ _ _ _ _ _ _ (c .before .loop .inv) (c .loop-test .taken)
 
 receive-word-requires : tie.Need-receive-word-requires Inv-loop μ-loop
 receive-word-requires c κs =
-    let given = c .before .before .before .before .before .before .before .before .before .before .before .before .pre in
-    let loop = c .before .before .before .before .loop in
-    let room = fits _ _ _ _ _ _ _ (loop .inv .0) (c .before .before .before .loop-test .taken) in
+    let given = c .before .before .before .before .before .before .before .before .pre in
+    let room = fits _ _ _ _ _ _ _ (c .before .before .loop .inv) (c .before .loop-test .taken) in
     record {
-      limits = given .checked .limits;
-      turn = c .before .before .before .loop-test .taken;
-      slots-size = given .checked .slots-size;
-      marks-size = given .checked .marks-size;
-      marks-small = given .checked .marks-small;
-      word-size = loop .inv .1;
-      marked-size = loop .inv .2;
+      limits = given .limits;
+      turn = c .before .loop-test .taken;
+      slots-size = given .slots-size;
+      marks-size = given .marks-size;
+      marks-small = given .marks-small;
       part-size = simp (length-take, length-drop) (omega arith);
     }
 
 same-length : tie.Need-same-length Inv-loop μ-loop
 same-length c =
-    let loop = c .before .before .before .before .before .before .before .before .before .before .before .before .before .loop in
-    let kept : length (c .before .before .before .before .before .before .before .before .receive-word .last .1 .1 .1 .1 .0) ≡ length (loop .word) = search needs in
-    kept ∙ loop .inv .1 ∙ sym (c .before .before .before .before .before .before .before .before .before .before .before .before .before .before .before .before .before .before .before .before .before .pre .word-size)
-
-same-length-2 : tie.Need-same-length-2 Inv-loop μ-loop
-same-length-2 c =
-    let loop = c .before .before .before .before .before .before .before .before .before .before .before .before .before .loop in
-    let kept : length (c .before .before .before .before .before .before .before .before .receive-word .last .1 .1 .1 .1 .1 .0) ≡ length (loop .marked) = search needs in
-    kept ∙ loop .inv .2 ∙ sym (c .before .before .before .before .before .before .before .before .before .before .before .before .before .before .before .before .before .before .before .before .before .pre .marked-size)
-
-same-length-3 : tie.Need-same-length-3 Inv-loop μ-loop
-same-length-3 c =
-    let f = c .before .before .before .before .before .before .before .before .before .before .before .before .before .before .before .before .before .before .before .before .before .args .f in
-    let loop = c .before .before .before .before .before .before .before .before .before .before .before .before .before .loop in
+    let f = c .before .before .before .before .before .before .before .before .before .before .before .before .before .args .f in
+    let loop = c .before .before .before .before .before .before .before .loop in
+    let taken = c .before .before .before .before .before .before .loop-test .taken in
     let a : ℕ = loop .w * (f .n - f .r) in
-    let room = fits _ _ _ _ _ _ _ (loop .inv .0) (c .before .before .before .before .before .before .before .before .before .before .before .before .loop-test .taken) in
-    let back = c .before .before .before .before .before .before .before .before .receive-word in
-    let kept : length (back .last .1 .1 .1 .1 .1 .1 .0) ≡ length (take (a + (f .n - f .r) - a) (drop a (loop .area))) = search needs in
-    let size : length (back .last .1 .1 .1 .1 .1 .1 .0) ≡ f .n - f .r = kept ∙ simp (length-take, length-drop) (omega arith) in
-    put-size _ _ _ _ _ _ _ (loop .inv .0) (c .before .before .before .before .before .before .before .before .before .before .before .before .loop-test .taken) (back .last .1 .1 .1 .1 .1 .1 .0) size
+    let room = fits _ _ _ _ _ _ _ (loop .inv) taken in
+    let back = c .before .before .before .before .receive-word in
+    let kept : length (back .last .1 .1 .1 .1 .0) ≡ length (take (a + (f .n - f .r) - a) (drop a (loop .area))) = search needs in
+    let size : length (back .last .1 .1 .1 .1 .0) ≡ f .n - f .r = kept ∙ simp (length-take, length-drop) (omega arith) in
+    put-size _ _ _ _ _ _ _ (loop .inv) taken (back .last .1 .1 .1 .1 .0) size
 
 returns : tie.Need-returns Inv-loop μ-loop
-returns c = collected-lost _ _ _ _ _ _ _ (c .before .before .before .before .before .before .before .before .before .before .before .before .before .loop .inv .0) (c .before .before .before .before .before .before .before .before .before .before .before .before .loop-test .taken) _ _ _ (not-true _ (c .if1 .taken)) (c .before .before .before .before .before .before .before .before .receive-word .ensures)
+returns c = collected-lost _ _ _ _ _ _ _ (c .before .before .before .before .before .before .before .loop .inv) (c .before .before .before .before .before .before .loop-test .taken) _ _ _ (not-true _ (c .if1 .taken)) (c .before .before .before .before .receive-word .ensures)
 
 mul-figures : tie.Need-mul-figures Inv-loop μ-loop
-mul-figures c = omega (arith, c .before .before .before .before .before .before .before .before .before .before .before .before .before .before .before .before .before .before .before .before .before .before .pre .checked .limits .few)
+mul-figures c = omega (arith, c .before .before .before .before .before .before .before .before .before .before .before .before .before .before .pre .limits .few)
 
 array-set-from-figures : tie.Need-array-set-from-figures Inv-loop μ-loop
-array-set-from-figures c = omega (arith, c .before .before .before .before .before .before .before .before .before .before .before .before .before .before .before .before .before .before .before .before .before .before .pre .checked .limits .few)
+array-set-from-figures c = omega (arith, c .before .before .before .before .before .before .before .before .before .before .before .before .before .before .pre .limits .few)
 
 add-w : tie.Need-add-w Inv-loop μ-loop
-add-w c = omega (arith, c .before .before .before .before .before .before .before .before .before .before .before .before .before .before .before .before .before .before .before .before .before .before .pre .checked .limits .few)
+add-w c = omega (arith, c .before .before .before .before .before .before .before .before .before .before .before .before .before .before .pre .limits .few)
 
 loop-less : tie.Need-loop-less Inv-loop μ-loop
 loop-less c = omega arith
 
 loop-again : tie.Need-loop-again Inv-loop μ-loop
 loop-again c =
-    let f = c .before .before .before .before .before .before .before .before .before .before .before .before .before .before .before .before .before .before .before .before .before .before .args .f in
-    let loop = c .before .before .before .before .before .before .before .before .before .before .before .before .before .before .loop in
+    let f = c .before .before .before .before .before .before .before .before .before .before .before .before .before .before .args .f in
+    let loop = c .before .before .before .before .before .before .before .before .loop in
+    let taken = c .before .before .before .before .before .before .before .loop-test .taken in
     let a : ℕ = loop .w * (f .n - f .r) in
-    let room = fits _ _ _ _ _ _ _ (loop .inv .0) (c .before .before .before .before .before .before .before .before .before .before .before .before .before .loop-test .taken) in
-    let back = c .before .before .before .before .before .before .before .before .before .receive-word in
-    let kept : length (back .last .1 .1 .1 .1 .1 .1 .0) ≡ length (take (a + (f .n - f .r) - a) (drop a (loop .area))) = search needs in
-    let size : length (back .last .1 .1 .1 .1 .1 .1 .0) ≡ f .n - f .r = kept ∙ simp (length-take, length-drop) (omega arith) in
-    let word : length (back .last .1 .1 .1 .1 .0) ≡ length (loop .word) = search needs in
-    let marked : length (back .last .1 .1 .1 .1 .1 .0) ≡ length (loop .marked) = search needs in
-    (collecting-more _ _ _ _ _ _ _ (loop .inv .0) (c .before .before .before .before .before .before .before .before .before .before .before .before .before .before .before .before .before .before .before .before .before .before .pre .checked .limits .few) (c .before .before .before .before .before .before .before .before .before .before .before .before .before .loop-test .taken) _ (back .last .1 .1 .1 .1 .1 .1 .0) size (not-false _ (c .before .if1 .left)) (back .ensures), word ∙ loop .inv .1, marked ∙ loop .inv .2)
+    let room = fits _ _ _ _ _ _ _ (loop .inv) taken in
+    let back = c .before .before .before .before .before .receive-word in
+    let kept : length (back .last .1 .1 .1 .1 .0) ≡ length (take (a + (f .n - f .r) - a) (drop a (loop .area))) = search needs in
+    let size : length (back .last .1 .1 .1 .1 .0) ≡ f .n - f .r = kept ∙ simp (length-take, length-drop) (omega arith) in
+    collecting-more _ _ _ _ _ _ _ (loop .inv) (c .before .before .before .before .before .before .before .before .before .before .before .before .before .before .pre .limits .few) taken _ (back .last .1 .1 .1 .1 .0) size (not-false _ (c .before .if1 .left)) (back .ensures)
 
-same-length-4 : tie.Need-same-length-4 Inv-loop μ-loop
-same-length-4 c = c .before .loop .inv .1 ∙ sym (c .before .before .before .before .before .before .before .before .before .pre .word-size)
-
-same-length-5 : tie.Need-same-length-5 Inv-loop μ-loop
-same-length-5 c = c .before .loop .inv .2 ∙ sym (c .before .before .before .before .before .before .before .before .before .pre .marked-size)
-
-same-length-6 : tie.Need-same-length-6 Inv-loop μ-loop
-same-length-6 c = same _ _ _ _ _ _ _ (c .before .loop .inv .0)
+same-length-2 : tie.Need-same-length-2 Inv-loop μ-loop
+same-length-2 c = same _ _ _ _ _ _ _ (c .before .loop .inv)
 
 returns-2 : tie.Need-returns-2 Inv-loop μ-loop
-returns-2 c = collected-all _ _ _ _ _ _ _ (c .before .loop .inv .0) (omega arith) (c .before .before .before .before .before .before .before .before .before .pre .checked .limits .few)
+returns-2 c = collected-all _ _ _ _ _ _ _ (c .before .loop .inv) (omega arith) (c .before .before .before .before .before .before .before .pre .limits .few)
 
 pub receive-words-spec : {M : Type 1} → statement M
 receive-words-spec =
@@ -150,15 +126,11 @@ receive-words-spec =
     part-receive-word-end
     receive-word-requires
     same-length
-    same-length-2
-    same-length-3
     returns
     mul-figures
     array-set-from-figures
     add-w
     loop-less
     loop-again
-    same-length-4
-    same-length-5
-    same-length-6
+    same-length-2
     returns-2)

@@ -12,6 +12,9 @@ receive-requires c κs = search needs
 number-of-requires : tie.Need-number-of-requires
 number-of-requires c κs = search needs
 
+cast-number : tie.Need-cast-number
+cast-number c = search needs
+
 put-refusal-requires : tie.Need-put-refusal-requires
 put-refusal-requires c κs = search needs
 
@@ -22,7 +25,7 @@ same-length-2 : tie.Need-same-length-2
 same-length-2 c = search needs
 
 returns : tie.Need-returns
-returns c = told-refused _ _ _ _ (c .before .before .before .before .before .before .before .before .receive .ensures) _ (c .before .before .before .before .before .number-of .ensures .0) (c .before .before .before .before .if1 .taken) (c .before .before .put-refusal .ensures)
+returns c = told-refused _ _ _ _ (c .before .before .before .before .before .before .before .before .receive .ensures) _ (c .before .before .before .before .before .number-of .ensures) (c .before .before .before .before .if1 .taken) (c .before .before .put-refusal .ensures)
 
 payload-requires : tie.Need-payload-requires
 payload-requires c κs = search needs
@@ -37,7 +40,7 @@ same-length-4 : tie.Need-same-length-4
 same-length-4 c = search needs
 
 returns-2 : tie.Need-returns-2
-returns-2 c = told-accepted _ _ _ _ (c .before .before .before .before .before .before .before .before .before .before .before .receive .ensures) _ (c .before .before .before .before .before .before .before .before .number-of .ensures .0) (c .before .before .before .before .before .before .before .if1 .left) _ (c .before .before .before .before .payload .ensures) (c .before .before .put-frame .ensures)
+returns-2 c = told-accepted _ _ _ _ (c .before .before .before .before .before .before .before .before .before .before .before .receive .ensures) _ (c .before .before .before .before .before .before .before .before .number-of .ensures) (c .before .before .before .before .before .before .before .if1 .left) _ (c .before .before .before .before .payload .ensures) (c .before .before .put-frame .ensures)
 
 pub put-answer-spec : {M : Type 1} → statement M
 put-answer-spec =
@@ -45,6 +48,7 @@ put-answer-spec =
     (tie.spec
     receive-requires
     number-of-requires
+    cast-number
     put-refusal-requires
     same-length
     same-length-2
