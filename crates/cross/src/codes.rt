@@ -103,7 +103,7 @@ pub fn open_inner(word: &[u8], bytes: &mut [u8]) -> u8
     requires { ⌜ (length (now word) ≡ 32) × (length (now bytes) ≡ 28) ⌝ }
     ensures { λ r. ⌜ (r ≡ markOf (now (word .entry))) × (now (bytes .exit) ≡ passedOn (now (word .entry))) ⌝ }
 {
-    copy_front(word, bytes);
+    copy_front(&word[0..28], bytes);
     let marks = no_marks();
     mark_of(decode_part(inner_code(), word, &marks, bytes))
 }
