@@ -9,10 +9,10 @@ if grep -rnE '^ *axiom ' crates --include='*.antt'; then
   echo "an axiom"
   status=1
 fi
-# `steps` and `rings` are inner crates: their calls may ask something.
-for library in field word record line interleave link reader; do
+# `steps`, `rings`, `answers` and `frame` are inner crates: their calls may ask something. What `link` hands on of `frame` may not.
+for library in field word record line interleave cross link reader; do
   for call in $(sed -n 's/^pub use [a-z_:]*::\([a-z_0-9]*\);$/\1/p; s/^pub fn \([a-z_0-9]*\).*/\1/p' "crates/$library/src/lib.rt"); do
-    if cat "crates/$library"/src/*.rt | sed -n "/^pub fn $call[<(]/,/^{/p" | grep -q requires; then
+    if cat "crates/$library"/src/*.rt crates/frame/src/{setting,trailer}.rt | sed -n "/^pub fn $call[<(]/,/^{/p" | grep -q requires; then
       echo "$call of $library has a requires"
       status=1
     fi

@@ -10,7 +10,7 @@ use lib.ListN.{length, getD, take, replicate, length-append, length-replicate, L
 use lib.Seq.{getD-append-add, ext-getD}
 use lib.Dec.{T}
 use Rattle.algebra.specs.Tests.{at, below-at}
-use Rattle.algebra.specs.Lists.{tabulate, tabulated, length-tabulate, getD-tabulate}
+use Rattle.algebra.specs.Lists.{tabulate, tabulated, length-tabulate, getD-tabulate, tabulate-same}
 use Rattle.word.specs.Setting.{messageSize, limits, at-most}
 use Rattle.word.specs.Code.{encoded}
 use Rattle.word.specs.Codeword.{isCodeword, codeword}
@@ -28,7 +28,7 @@ use Rattle.coverage.specs.Line.{LineSetting, codeOf, LineAllowed, delay,
 use Rattle.coverage.specs.Coverage.{LineComesBack, NoTwoLinesAlike}
 use Rattle.coverage.specs.Each.{each-length, each-entry}
 use Rattle.coverage.specs.LineCalls.{Prepared, sender-calls, receiver-calls}
-use Rattle.coverage.specs.Words.{Came, tabulate-same, tabulate-below, word-encoded, encoded-code, encoded-message, word-once, word-decoded, part-decoded}
+use Rattle.coverage.specs.Words.{Came, tabulate-below, word-encoded, encoded-code, encoded-message, word-once, word-decoded, part-decoded}
 
 -- ---- words of n symbols end to end
 

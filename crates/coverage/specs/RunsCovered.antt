@@ -1,7 +1,7 @@
 -- Unmarked runs of up to depth · t slots leave every word within the bound (document 01, Block interleaver and frame, Delay line): the slots of
 -- one word lie at least the depth apart, so such a run holds at most t of them.
 -- Assumes nothing.
-use mathlib.Core.Path.{_≡_, refl, ap, ap₂, _∙_}
+use mathlib.Core.Path.{_≡_, ap, _∙_}
 use mathlib.Core.Bool.{Bool, true, false, _&&_, not}
 use mathlib.Core.List.{List, [], _∷_}
 use mathlib.Core.Logic.{⊎-elim}
@@ -10,9 +10,9 @@ use native.Mathlib.Nat.{dvd-of-mod-eq-zero}
 use native.Mathlib.Decide.{ℕ-discrete}
 use native.Mathlib.Omega.{arith}
 use lib.Dec.{eqb}
-use Rattle.algebra.specs.Tests.{at, oneIf, total}
+use Rattle.algebra.specs.Tests.{at, oneIf, total, total-same}
 use Rattle.algebra.specs.Sets.{count, count-mono, one-yes}
-use Rattle.algebra.specs.Lists.{tabulate, length-tabulate, getD-tabulate}
+use Rattle.algebra.specs.Lists.{tabulate, length-tabulate, getD-tabulate, tabulate-same}
 use Rattle.word.specs.Word.{errorOf, errorOf-same, errorOf-marked, errors, marked}
 use Rattle.word.specs.Distance.{total-zero}
 use Rattle.interleave.specs.Block.{in-block}
@@ -23,7 +23,6 @@ use Rattle.coverage.specs.Channel.{Within, half, Struck, Marked}
 use Rattle.coverage.specs.Frame.{frameWord, frameAt}
 use Rattle.coverage.specs.Line.{LineSetting, LineAllowed, delay}
 use Rattle.coverage.specs.Coverage.{FrameRunWithin, FramesRunWithin, LineRunWithin, LineRunsWithin, FrameMarkedRunWithin, LineMarkedRunsWithin}
-use Rattle.coverage.specs.Words.{tabulate-same}
 
 -- ---- a word of slots that runs have struck
 
@@ -35,11 +34,6 @@ total-count q (suc n) f most zeros = elim (q n) [
   | yes p ↦ omega (arith, most n (omega arith), one-yes (q n) p, total-count q n f (λ i l. most i (omega arith)) (λ i l. zeros i (omega arith)))
   | no p ↦ omega (arith, zeros n (omega arith) p, total-count q n f (λ i l. most i (omega arith)) (λ i l. zeros i (omega arith)))
 ]
-
-total-same : (n : ℕ) (f g : ℕ → ℕ) → ((i : ℕ) → i < n → f i ≡ g i) → total n f ≡ total n g
-unfolding total
-total-same zero f g h = refl
-total-same (suc n) f g h = ap₂ _+_ (total-same n f g λ i l. h i (omega arith)) (h n (omega arith))
 
 error-most : (mark x y : ℕ) → errorOf mark x y ≤ 1
 unfolding errorOf

@@ -9,7 +9,7 @@ use native.Mathlib.Omega.{arith}
 use lib.ListN.{length, take}
 use lib.Dec.{T}
 use Rattle.algebra.specs.Tests.{below, below-all, passed}
-use Rattle.algebra.specs.Lists.{tabulate, tabulated, length-tabulate, getD-tabulate}
+use Rattle.algebra.specs.Lists.{tabulate, length-tabulate, getD-tabulate}
 use Rattle.word.specs.Setting.{allowed, messageSize}
 use Rattle.word.specs.Codeword.{isCodeword, qualifies, codeword, is-near}
 use Rattle.word.specs.Code.{encoded, corrected}
@@ -23,9 +23,6 @@ use Rattle.word.specs.declared.Decoded.the-variants.{Done}
 use Rattle.word.specs.declared.Encoded.{Encoded}
 use Rattle.word.specs.declared.Encoded.the-variants as E
 use Rattle.coverage.specs.Channel.{Within}
-
-pub tabulate-same : (n : ℕ) (f g : ℕ → ℕ) → ((i : ℕ) → i < n → f i ≡ g i) → tabulate n f ≡ tabulate n g
-tabulate-same n f g h = tabulated (tabulate n f) n g 0 (length-tabulate n f) λ i l. getD-tabulate n f i 0 l ∙ h i l
 
 pub tabulate-below : (q n : ℕ) (f : ℕ → ℕ) → ((i : ℕ) → i < n → f i < q) → T (below q (tabulate n f))
 tabulate-below q n f h = below-all q (tabulate n f) λ i u. let l : i < n = omega (arith, length-tabulate n f) in rw (getD-tabulate n f i 0 l) (h i l)

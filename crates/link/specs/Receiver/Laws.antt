@@ -9,7 +9,6 @@ use Rattle.record.specs.Record.{noted}
 use Rattle.link.specs.Receiver.{HearOutcome, hearOutcome, heard}
 use Rattle.frame.specs.declared.setting.Framing.{Framing}
 use Rattle.frame.specs.declared.setting.Received.{Received}
-use Rattle.frame.specs.declared.setting.Verdict.{Verdict}
 use Rattle.record.specs.declared.Record.{Record}
 
 module _ (h : Record) (f : Framing) (marks slots area : List ℕ) where
@@ -30,6 +29,3 @@ module _ (h : Record) (f : Framing) (marks slots area : List ℕ) where
   hear-once r s n m x y p q =
       let (a, b) = receive-once f marks slots area r s x y (ap (λ (o : HearOutcome). o .frame) p) (ap (λ (o : HearOutcome). o .frame) q) in
       (a, ap (λ (o : HearOutcome). o .next) (p ∙ sym q), b)
-
-pub number-once : (v : Verdict) (r s : ℕ) → r ≡ numberOf v → s ≡ numberOf v → r ≡ s
-number-once v r s p q = cc

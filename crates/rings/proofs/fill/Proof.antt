@@ -10,10 +10,10 @@ use Rattle.algebra.specs.Lists.{tabulate, Filled, filled-none, filled-more, fil
 use Rattle.rings.proofs.fill.Statement.{statement}
 use Rattle.rings.proofs.fill.Tie as tie
 
-tabulate-same : (n v : ℕ) → tabulate n (λ _. v) ≡ replicate n v
+all-alike : (n v : ℕ) → tabulate n (λ _. v) ≡ replicate n v
 unfolding tabulate
-tabulate-same zero v = refl
-tabulate-same (suc n) v = ap (λ (l : List ℕ). v ∷ l) (tabulate-same n v)
+all-alike zero v = refl
+all-alike (suc n) v = ap (λ (l : List ℕ). v ∷ l) (all-alike n v)
 
 abbrev Inv-loop : tie.InvT-loop
 Inv-loop buffer₀ value i₀ buffer i = (i ≤ length buffer₀) × Filled (length buffer₀) (λ _. value) i buffer
@@ -40,7 +40,7 @@ same-length : tie.Need-same-length Inv-loop μ-loop
 same-length c = c .before .loop .inv .1 .size
 
 returns : tie.Need-returns Inv-loop μ-loop
-returns c = filled-all _ _ (c .before .loop .i) _ (omega (arith, c .before .loop .inv .1 .size)) (c .before .loop .inv .1) ∙ tabulate-same _ _
+returns c = filled-all _ _ (c .before .loop .i) _ (omega (arith, c .before .loop .inv .1 .size)) (c .before .loop .inv .1) ∙ all-alike _ _
 
 pub fill-spec : {M : Type 1} → statement M
 fill-spec =

@@ -36,7 +36,11 @@ loop-less : tie.Need-loop-less Inv-loop μ-loop
 loop-less c = omega arith
 
 loop-again : tie.Need-loop-again Inv-loop μ-loop
-loop-again c = turned-more _ _ _ _ _ _ _ _ _ _ _ (omega arith) (c .before .before .before .before .ring-of .ensures .0) refl (c .before .before .turn .ensures) (c .before .before .before .before .before .before .before .loop .inv)
+loop-again c =
+    turned-more _ _ _ _ _ _ _ _ _ _ _ (omega arith)
+    (c .before .before .before .before .ring-of .ensures .0)
+    refl (c .before .before .turn .ensures)
+    (c .before .before .before .before .before .before .before .loop .inv)
 
 same-length : tie.Need-same-length Inv-loop μ-loop
 same-length c = c .before .loop .inv .memory-size ∙ sym (c .before .before .before .before .pre .0)

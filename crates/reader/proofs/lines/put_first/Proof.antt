@@ -25,7 +25,13 @@ same-length : tie.Need-same-length
 same-length c = search needs
 
 returns : tie.Need-returns
-returns c = (put-opening _ _ (c .before .before .before .before .before .before .before .before .before .before .before .put-named .ensures .0) (c .before .before .before .before .before .before .put-named2 .ensures .0) (c .before .before .put-byte .ensures), omega arith)
+returns c = (
+  put-opening _ _
+      (c .before .before .before .before .before .before .before .before .before .before .before .put-named .ensures .0)
+      (c .before .before .before .before .before .before .put-named2 .ensures .0)
+      (c .before .before .put-byte .ensures),
+  omega arith,
+)
 
 pub put-first-spec : {M : Type 1} → statement M
 put-first-spec =

@@ -24,7 +24,12 @@ same-length : tie.Need-same-length
 same-length c = search needs
 
 returns : tie.Need-returns
-returns c = put-accepted _ _ _ _ (rw (c .before .before .before .before .before .before .before .before .before .before .before .before .before .before .before .before .wide .ensures) at (c .before .before .before .before .before .before .before .before .before .before .before .before .before .before .put-first .ensures .0)) (c .before .before .before .before .before .before .before .before .before .before .put-words .ensures .0) (c .before .before .before .before .before .before .put-hexes .ensures .0) (c .before .before .put-byte .ensures)
+returns c =
+    put-accepted _ _ _ _
+    (rw (c .before .before .before .before .before .before .before .before .before .before .before .before .before .before .before .before .wide .ensures) at (c .before .before .before .before .before .before .before .before .before .before .before .before .before .before .put-first .ensures .0))
+    (c .before .before .before .before .before .before .before .before .before .before .put-words .ensures .0)
+    (c .before .before .before .before .before .before .put-hexes .ensures .0)
+    (c .before .before .put-byte .ensures)
 
 pub put-frame-spec : {M : Type 1} → statement M
 put-frame-spec =

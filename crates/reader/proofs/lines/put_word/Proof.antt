@@ -46,7 +46,20 @@ same-length : tie.Need-same-length
 same-length c = search needs
 
 returns : tie.Need-returns
-returns c = (put-figures _ (c .before .before .before .before .before .before .before .before .before .before .before .before .before .before .before .before .before .before .before .before .before .before .before .before .before .before .before .before .args .f) _ _ _ (c .before .before .before .before .before .before .before .before .before .before .before .before .before .before .before .before .before .before .before .before .wide .ensures) (c .before .before .before .before .before .before .before .before .before .before .before .before .before .before .wide2 .ensures) (c .before .before .before .before .before .before .before .before .wide3 .ensures) (c .before .before .before .before .before .before .before .before .before .before .before .before .before .before .before .before .before .before .before .before .before .before .before .before .put-named .ensures .0) (c .before .before .before .before .before .before .before .before .before .before .before .before .before .before .before .before .before .before .put-named2 .ensures .0) (c .before .before .before .before .before .before .before .before .before .before .before .before .put-named3 .ensures .0) (c .before .before .before .before .before .before .put-named4 .ensures .0) (c .before .before .put-byte .ensures), omega arith)
+returns c = (
+  put-figures _
+      (c .before .before .before .before .before .before .before .before .before .before .before .before .before .before .before .before .before .before .before .before .before .before .before .before .before .before .before .before .args .f)
+      _ _ _
+      (c .before .before .before .before .before .before .before .before .before .before .before .before .before .before .before .before .before .before .before .before .wide .ensures)
+      (c .before .before .before .before .before .before .before .before .before .before .before .before .before .before .wide2 .ensures)
+      (c .before .before .before .before .before .before .before .before .wide3 .ensures)
+      (c .before .before .before .before .before .before .before .before .before .before .before .before .before .before .before .before .before .before .before .before .before .before .before .before .put-named .ensures .0)
+      (c .before .before .before .before .before .before .before .before .before .before .before .before .before .before .before .before .before .before .put-named2 .ensures .0)
+      (c .before .before .before .before .before .before .before .before .before .before .before .before .put-named3 .ensures .0)
+      (c .before .before .before .before .before .before .put-named4 .ensures .0)
+      (c .before .before .put-byte .ensures),
+  omega arith,
+)
 
 pub put-word-spec : {M : Type 1} → statement M
 put-word-spec =

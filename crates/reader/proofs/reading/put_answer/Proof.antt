@@ -25,7 +25,13 @@ same-length-2 : tie.Need-same-length-2
 same-length-2 c = search needs
 
 returns : tie.Need-returns
-returns c = told-refused _ _ _ _ (c .before .before .before .before .before .before .before .before .receive .ensures) _ (c .before .before .before .before .before .number-of .ensures) (c .before .before .before .before .if1 .taken) (c .before .before .put-refusal .ensures)
+returns c =
+    told-refused _ _ _ _
+    (c .before .before .before .before .before .before .before .before .receive .ensures)
+    _
+    (c .before .before .before .before .before .number-of .ensures)
+    (c .before .before .before .before .if1 .taken)
+    (c .before .before .put-refusal .ensures)
 
 payload-requires : tie.Need-payload-requires
 payload-requires c κs = search needs
@@ -40,7 +46,15 @@ same-length-4 : tie.Need-same-length-4
 same-length-4 c = search needs
 
 returns-2 : tie.Need-returns-2
-returns-2 c = told-accepted _ _ _ _ (c .before .before .before .before .before .before .before .before .before .before .before .receive .ensures) _ (c .before .before .before .before .before .before .before .before .number-of .ensures) (c .before .before .before .before .before .before .before .if1 .left) _ (c .before .before .before .before .payload .ensures) (c .before .before .put-frame .ensures)
+returns-2 c =
+    told-accepted _ _ _ _
+    (c .before .before .before .before .before .before .before .before .before .before .before .receive .ensures)
+    _
+    (c .before .before .before .before .before .before .before .before .number-of .ensures)
+    (c .before .before .before .before .before .before .before .if1 .left)
+    _
+    (c .before .before .before .before .payload .ensures)
+    (c .before .before .put-frame .ensures)
 
 pub put-answer-spec : {M : Type 1} → statement M
 put-answer-spec =

@@ -27,22 +27,33 @@ array-share-prefix-marks : tie.Need-array-share-prefix-marks
 array-share-prefix-marks c = omega (arith, slots-few _ (c .before .before .before .before .before .before .before .pre .0))
 
 slice-aggregate-put-answer : tie.Need-slice-aggregate-put-answer
-slice-aggregate-put-answer c = part-size _ _ (slots-few _ (c .before .before .before .before .before .before .before .before .pre .0)) (c .before .before .before .before .before .work-space .ensures .1)
+slice-aggregate-put-answer c =
+    part-size _ _
+    (slots-few _ (c .before .before .before .before .before .before .before .before .pre .0))
+    (c .before .before .before .before .before .work-space .ensures .1)
 
 array-borrow-prefix-area : tie.Need-array-borrow-prefix-area
 array-borrow-prefix-area c = omega (arith, area-few _ (c .before .before .before .before .before .before .before .before .pre .0))
 
 slice-aggregate-put-answer-2 : tie.Need-slice-aggregate-put-answer-2
-slice-aggregate-put-answer-2 c = part-size _ _ (area-few _ (c .before .before .before .before .before .before .before .before .before .pre .0)) (c .before .before .before .before .before .work-space2 .ensures .1)
+slice-aggregate-put-answer-2 c =
+    part-size _ _
+    (area-few _ (c .before .before .before .before .before .before .before .before .before .pre .0))
+    (c .before .before .before .before .before .work-space2 .ensures .1)
 
 put-answer-requires : tie.Need-put-answer-requires
-put-answer-requires c κs = omega (arith, c .before .before .before .before .before .before .before .before .before .before .pre .0 .few, area-few _ (c .before .before .before .before .before .before .before .before .before .before .pre .0), part-size (areaSize (c .before .before .before .before .before .before .before .before .before .before .args .f)) (c .before .before .before .before .before .before .work-space2 .result) (area-few _ (c .before .before .before .before .before .before .before .before .before .before .pre .0)) (c .before .before .before .before .before .before .work-space2 .ensures .1))
+put-answer-requires c κs =
+    let limits = c .before .before .before .before .before .before .before .before .before .before .pre .0 in
+    let area = part-size (areaSize (c .before .before .before .before .before .before .before .before .before .before .args .f)) (c .before .before .before .before .before .before .work-space2 .result) (area-few _ limits) (c .before .before .before .before .before .before .work-space2 .ensures .1) in
+    omega (arith, limits .few, area-few _ limits)
 
 same-length : tie.Need-same-length
 same-length c = search needs
 
 returns : tie.Need-returns
-returns c = rw (unmarked _ _ _ _ (c .before .before .before .before .before .before .before .before .before .before .before .before .before .before .pre .0) (c .before .before .before .before .before .before .before .before .before .before .before .work-space .ensures .0) (c .before .before .before .before .before .before .before .before .before .before .work-space2 .ensures .0)) at (c .before .before .before .put-answer .ensures)
+returns c =
+    let limits = c .before .before .before .before .before .before .before .before .before .before .before .before .before .before .pre .0 in
+    rw (unmarked _ _ _ _ limits (c .before .before .before .before .before .before .before .before .before .before .before .work-space .ensures .0) (c .before .before .before .before .before .before .before .before .before .before .work-space2 .ensures .0)) at (c .before .before .before .put-answer .ensures)
 
 pub put-unmarked-spec : {M : Type 1} → statement M
 put-unmarked-spec =

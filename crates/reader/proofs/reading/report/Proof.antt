@@ -40,7 +40,9 @@ put-unmarked-requires : tie.Need-put-unmarked-requires
 put-unmarked-requires c κs = (frame-kept _ (sym (c .before .before .before .is-allowed .ensures) ∙ not-false _ (c .before .before .if2 .left)), omega arith)
 
 returns-3 : tie.Need-returns-3
-returns-3 c = left-behind _ _ _ _ (rw (c .before .before .before .before .before .framing .ensures, spoken-answer (c .before .before .before .before .before .before .before .before .args .input .now) (omega arith)) at (c .put-unmarked .ensures))
+returns-3 c =
+    left-behind _ _ _ _
+    (rw (c .before .before .before .before .before .framing .ensures, spoken-answer (c .before .before .before .before .before .before .before .before .args .input .now) (omega arith)) at (c .put-unmarked .ensures))
 
 pub report-spec : {M : Type 1} → statement M
 report-spec =

@@ -28,7 +28,16 @@ same-length : tie.Need-same-length
 same-length c = search needs
 
 returns : tie.Need-returns
-returns c = (put-number _ _ (c .before .before .before .before .digit .ensures) (c .before .before .before .before .before .before .before .before .before .before .before .before .before .before .before .before .before .before .before .put-digit .ensures .0) (c .before .before .before .before .before .before .before .before .before .before .before .before .before .before .before .put-digit2 .ensures .0) (c .before .before .before .before .before .before .before .before .before .before .before .put-digit3 .ensures .0) (c .before .before .before .before .before .before .before .put-digit4 .ensures .0) (c .before .before .put-byte .ensures), omega arith)
+returns c = (
+  put-number _ _
+      (c .before .before .before .before .digit .ensures)
+      (c .before .before .before .before .before .before .before .before .before .before .before .before .before .before .before .before .before .before .before .put-digit .ensures .0)
+      (c .before .before .before .before .before .before .before .before .before .before .before .before .before .before .before .put-digit2 .ensures .0)
+      (c .before .before .before .before .before .before .before .before .before .before .before .put-digit3 .ensures .0)
+      (c .before .before .before .before .before .before .before .put-digit4 .ensures .0)
+      (c .before .before .put-byte .ensures),
+  omega arith,
+)
 
 pub put-decimal-spec : {M : Type 1} → statement M
 put-decimal-spec =

@@ -2,8 +2,7 @@
 -- Assumes nothing.
 use native.Mathlib.Omega.{arith}
 use Prim.Native.Nat.{_-_, _≤_}
-use lib.ListN.{length}
-use lib.ListN.{take}
+use lib.ListN.{length, take}
 use Rattle.reader.specs.Put.{Put, put-size}
 use Rattle.reader.specs.Text.{hexes}
 use Rattle.reader.specs.Pieces.{hexes-begun, hexes-room, hexes-on, hexes-done}
@@ -39,7 +38,11 @@ same-length : tie.Need-same-length Inv-loop μ-loop
 same-length c = put-size (c .before .loop .inv .1)
 
 returns : tie.Need-returns Inv-loop μ-loop
-returns c = let p = hexes-done _ _ (c .before .before .before .before .args .bytes .now) (c .before .loop .i) _ _ (c .before .loop .inv .1) (omega arith) in (p, omega (arith, p .next, hexes-size (c .before .before .before .before .args .bytes .now)))
+returns c =
+    let p = hexes-done _ _
+    (c .before .before .before .before .args .bytes .now)
+    (c .before .loop .i) _ _ (c .before .loop .inv .1) (omega arith) in
+    (p, omega (arith, p .next, hexes-size (c .before .before .before .before .args .bytes .now)))
 
 pub put-hexes-spec : {M : Type 1} → statement M
 put-hexes-spec =
