@@ -17,8 +17,8 @@ use Rattle.line.specs.Setting.{memorySize}
 use Rattle.line.specs.Promises.{FreshSender, SendStep, SendRun, FreshReceiver, ReceiveStep, ReceiveRun}
 use Rattle.line.specs.declared.setting.Line.{Line}
 use Rattle.line.specs.declared.setting.Ready.{Ready}
-use Rattle.line.specs.declared.sender.Sent.{Sent}
-use Rattle.line.specs.declared.receiver.Received.{Received}
+use Rattle.line.specs.declared.setting.Sent.{Sent}
+use Rattle.line.specs.declared.setting.Received.{Received}
 use Rattle.coverage.specs.Channel.{Channel, Within, Each}
 
 -- ---- the setting

@@ -12,8 +12,8 @@ use Rattle.line.specs.Setting.{lineRefusal, Fine, line-done, advanced-fine, run
 use Rattle.line.specs.Steps.{sendStep, sendMemory, Sending, sender, sendSteps, send-done, send-kept, receiveStep, receiveMemory, receiveMarks, Receiving, receiver, receiveSteps, receive-given, receive-kept, receive-held}
 use Rattle.line.specs.declared.setting.Line.{Line}
 use Rattle.line.specs.declared.setting.Ready.{Ready}
-use Rattle.line.specs.declared.sender.Sent.{Sent}
-use Rattle.line.specs.declared.receiver.Received.{Received}
+use Rattle.line.specs.declared.setting.Sent.{Sent}
+use Rattle.line.specs.declared.setting.Received.{Received}
 use Rattle.coverage.specs.Line.{SenderCalls, ReceiverCalls}
 
 -- ---- the sender

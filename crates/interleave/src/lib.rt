@@ -7,13 +7,13 @@ pub use block::gather;
 pub use block::spread;
 
 // The delay line: a fresh line, a step, a run of steps.
-pub use line::Line;
-pub use line::Ready;
-pub use line::Received;
-pub use line::Sent;
-pub use line::fresh_receiver;
-pub use line::fresh_sender;
-pub use line::receive_run;
-pub use line::receive_step;
-pub use line::send_run;
-pub use line::send_step;
+pub use line::setting::Line;
+pub use line::setting::Ready;
+pub use line::setting::Received;
+pub use line::setting::Sent;
+pub use receiver::fresh_receiver;
+pub use receiver::receive_run;
+pub use receiver::receive_step;
+pub use sender::fresh_sender;
+pub use sender::send_run;
+pub use sender::send_step;

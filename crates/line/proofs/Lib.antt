@@ -1,3 +1,2 @@
 -- Laws that more than one proof of this crate leans on.
 mod Bounds
-mod Passing

@@ -9,8 +9,8 @@ use Rattle.line.specs.Setting.{lineAt, lineRefusal, receiverRefusal, run
 use Rattle.line.specs.Steps.{freshAnswer, freshMemory, runAnswer, sendStep, sendMemory, sendSteps, receiveStep, receiveMemory, receiveMarks, receiveSteps}
 use Rattle.line.specs.declared.setting.Line.{Line}
 use Rattle.line.specs.declared.setting.Ready.{Ready}
-use Rattle.line.specs.declared.sender.Sent.{Sent}
-use Rattle.line.specs.declared.receiver.Received.{Received}
+use Rattle.line.specs.declared.setting.Sent.{Sent}
+use Rattle.line.specs.declared.setting.Received.{Received}
 
 -- ---- a fresh line
 

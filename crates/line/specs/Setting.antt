@@ -9,6 +9,7 @@ use native.Mathlib.Decide.{ℕ-discrete, decLe, decLt, map-dec}
 use native.Mathlib.Omega.{arith}
 use lib.ListN.{length}
 use Rattle.rings.specs.Refusal.{need, need-yes, need-zero, first, first-none, first-zero}
+use Rattle.rings.specs.Rings.{RingFits, ring-end, tri-size}
 use Rattle.line.specs.Line.{period}
 use Rattle.rings.specs.Marks.{Marks, marks?}
 use Rattle.line.specs.declared.setting.Line.{Line}
@@ -142,3 +143,14 @@ pub run-done : (l : Line) (size : ℕ) (held : List ℕ) (many : ℕ) (marks : L
 unfolding runRefusal
 run-done l size held many marks r =
     sym (first-none _ _ 0 (receiver-done l size (length held) (r .line) (r .exact)) (need-yes _ _ _ 0 (r .each) (need-yes _ _ _ 0 (r .fit) (need-yes _ _ _ 0 (r .small) refl))))
+
+-- the ring of any branch fits a line's memory
+pub ring-fits : (l : Line) (size k q : ℕ) → Fine l size → k < l .branches → RingFits (l .unit) k q size
+ring-fits l size k q f h =
+    let s = f .allowed .setting in
+    record {
+      some = s .unit .0;
+      unit = s .unit .1;
+      units = omega (arith, s .branches .1);
+      inside = λ u. omega (arith, f .exact, tri-size (l .branches) (l .unit), ring-end (l .unit) (s .unit .0) k (l .branches) q u h);
+    }

@@ -10,8 +10,8 @@ use Rattle.line.specs.Line.{up, down}
 use Rattle.line.specs.Setting.{memorySize, lineAt, advanced, lineRefusal, receiveRefusal, Fine, line-done, StepFine, receive-done}
 use Rattle.line.specs.declared.setting.Line.{Line}
 use Rattle.line.specs.declared.setting.Ready.{Ready}
-use Rattle.line.specs.declared.sender.Sent.{Sent}
-use Rattle.line.specs.declared.receiver.Received.{Received}
+use Rattle.line.specs.declared.setting.Sent.{Sent}
+use Rattle.line.specs.declared.setting.Received.{Received}
 
 -- ---- a fresh line: position 0, and every byte of a memory is d: 0 for bytes, 1 for marks
 

@@ -19,6 +19,21 @@ pub struct Ready {
     pub line: Line,
 }
 
+// What a step of the sender answers: its number, the byte that leaves (0 under a refusal), and the line for the next step.
+pub struct Sent {
+    pub answer: u8,
+    pub byte: u8,
+    pub line: Line,
+}
+
+// What a step of the receiver answers: its number, the byte and the mark that leave (0 under a refusal), and the line for the next step.
+pub struct Received {
+    pub answer: u8,
+    pub byte: u8,
+    pub mark: u8,
+    pub line: Line,
+}
+
 // The least number that each of 1 to branches - 1 divides. Arms, and no table: a table would be laid out anew at each call.
 fn common(branches: usize) -> usize
     ensures { λ r. ⌜ r ≡ common branches ⌝ }

@@ -26,8 +26,8 @@ use Rattle.line.specs.Setting.{memorySize, lineAt, lineRefusal, receiverRefusal
 use Rattle.line.specs.Steps.{sendStep, sendMemory, receiveStep, receiveMemory, receiveMarks}
 use Rattle.line.specs.Promises.{FreshSender, FreshReceiver, SendStep, SendRun, ReceiveStep, ReceiveRun}
 use Rattle.line.specs.declared.setting.Ready.{Ready}
-use Rattle.line.specs.declared.sender.Sent.{Sent}
-use Rattle.line.specs.declared.receiver.Received.{Received}
+use Rattle.line.specs.declared.setting.Sent.{Sent}
+use Rattle.line.specs.declared.setting.Received.{Received}
 use Rattle.worked.specs.Slots.{sender-stands, receiver-stands}
 
 -- no call of the word code answers 1
