@@ -9,7 +9,7 @@ if grep -rnE '^ *axiom ' crates --include='*.antt'; then
   echo "an axiom"
   status=1
 fi
-# `steps`, `rings`, `line`, `answers` and `frame` are inner crates: their calls may ask something. What `link` hands on of `frame` may not.
+# `buffers`, `steps`, `rings`, `line`, `answers` and `frame` are inner crates: their calls may ask something. What `link` hands on of `frame` may not.
 for library in field word record sender receiver interleave cross link reader; do
   for call in $(sed -n 's/^pub use [a-z_:]*::\([a-z_0-9]*\);$/\1/p; s/^pub fn \([a-z_0-9]*\).*/\1/p' "crates/$library/src/lib.rt"); do
     if cat "crates/$library"/src/*.rt crates/frame/src/{setting,trailer}.rt | sed -n "/^pub fn $call[<(]/,/^{/p" | grep -q requires; then

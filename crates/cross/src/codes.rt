@@ -1,14 +1,14 @@
 // The two codes of a cross line, as its sender and its receiver use them.
 ghost use mathlib.Core.Path.{_≡_};
-ghost use Prim.Native.Nat.{_≤_};
-ghost use lib.ListN.{length, replicate, take};
+ghost use lib.ListN.{length, replicate};
 ghost use Rattle.rings.specs.Refusal.{ifZero};
 ghost use Rattle.word.specs.Answers.{numberOf};
 ghost use Rattle.cross.specs.Cross.{outerCode, innerCode, outerWord, innerWord, passedOn, markOf, closed, found};
 use answers::figures_of;
 use answers::no_figures;
 use answers::number_of;
-use rings::fill;
+use buffers::copy;
+use buffers::fill;
 use word::Decoded;
 use word::Figures;
 use word::Setting;
@@ -85,25 +85,13 @@ pub fn inner_word(bytes: &[u8], word: &mut [u8])
     encode(inner_code(), bytes, word);
 }
 
-// The first bytes of a word.
-fn copy_front(word: &[u8], bytes: &mut [u8])
-    requires { ⌜ length (now bytes) ≤ length (now word) ⌝ }
-    ensures { λ _. ⌜ now (bytes .exit) ≡ take (length (now (bytes .entry))) (now (word .entry)) ⌝ }
-{
-    let mut i = 0;
-    while i < bytes.len() {
-        bytes[i] = word[i];
-        i += 1;
-    }
-}
-
 // The 28 bytes that an inner word passes on, and the mark of each: corrected and 0, or where the word is refused as received and 1.
 // Its check bytes are dropped.
 pub fn open_inner(word: &[u8], bytes: &mut [u8]) -> u8
     requires { ⌜ (length (now word) ≡ 32) × (length (now bytes) ≡ 28) ⌝ }
     ensures { λ r. ⌜ (r ≡ markOf (now (word .entry))) × (now (bytes .exit) ≡ passedOn (now (word .entry))) ⌝ }
 {
-    copy_front(&word[0..28], bytes);
+    copy(&word[0..28], bytes);
     let marks = no_marks();
     mark_of(decode_part(inner_code(), word, &marks, bytes))
 }

@@ -13,7 +13,7 @@ use crate::position::Ready;
 use crate::position::frames_of_a_cycle;
 use crate::position::next;
 use answers::no_figures;
-use rings::fill;
+use buffers::fill;
 use rings::marks_fit;
 use word::Figures;
 

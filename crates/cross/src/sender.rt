@@ -8,7 +8,7 @@ use crate::delays::hold_back;
 use crate::position::Ready;
 use crate::position::frames_of_a_cycle;
 use crate::position::next;
-use rings::fill;
+use buffers::fill;
 
 // A sender that has sent nothing: position 0, and a memory of 1512 zeros.
 // Answers 0; or 2 for a memory of another length, which stays as it was.

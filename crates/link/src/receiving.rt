@@ -8,6 +8,7 @@ ghost use Rattle.link.specs.Decoding.{foundOf, Decodes, WordGiven, Frame
 use answers::figures_of;
 use answers::no_figures;
 use answers::number_of;
+use buffers::fill;
 use frame::setting::Framing;
 use frame::setting::Received;
 use frame::setting::Verdict;
@@ -17,7 +18,6 @@ use frame::slots::take_word;
 use frame::trailer::is_good;
 use frame::trailer::payload;
 use frame::trailer::two_at;
-use rings::fill;
 use rings::marks_fit;
 use word::Decoded;
 use word::Figures;

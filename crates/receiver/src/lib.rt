@@ -7,6 +7,7 @@ ghost use Rattle.line.specs.Line.{down};
 ghost use Rattle.line.specs.Setting.{RunFine, receiveRefusal, runRefusal};
 ghost use Rattle.line.specs.Steps.{receiver, receiveSteps};
 ghost use Rattle.line.specs.Promises.{FreshReceiver, ReceiveStep, ReceiveRun};
+use buffers::fill;
 use line::setting::Line;
 use line::setting::Ready;
 use line::setting::Received;
@@ -14,7 +15,6 @@ use line::setting::advanced;
 use line::setting::next;
 use line::setting::period;
 use line::setting::receiver_refusal;
-use rings::fill;
 use rings::marks_fit;
 use rings::turn;
 

@@ -1,6 +1,5 @@
 // Rings of bytes end to end in one lent memory, the shortest first: what every delay is made of, also the cross line's.
-ghost use mathlib.Core.Path.{_≡_};
-ghost use lib.ListN.{length, replicate};
+ghost use lib.ListN.{length};
 ghost use Rattle.rings.specs.Refusal.{Says};
 ghost use Rattle.rings.specs.Rings.{RingFits, RingTurned};
 ghost use Rattle.rings.specs.Marks.{Marks};
@@ -17,17 +16,6 @@ pub fn turn(memory: &mut [u8], unit: usize, k: usize, q: usize, byte: u8) -> u8
     let out = memory[at];
     memory[at] = byte;
     out
-}
-
-// Every byte of the buffer becomes the value.
-pub fn fill(buffer: &mut [u8], value: u8)
-    ensures { λ _. ⌜ now (buffer .exit) ≡ replicate (length (now (buffer .entry))) value ⌝ }
-{
-    let mut i = 0;
-    while i < buffer.len() {
-        buffer[i] = value;
-        i += 1;
-    }
 }
 
 // No mark is above 1. The largest mark is taken, with no early way out, so that the loop can run on many bytes at once.

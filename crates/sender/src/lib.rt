@@ -4,6 +4,7 @@ ghost use lib.ListN.{length};
 ghost use Rattle.line.specs.Setting.{Fine};
 ghost use Rattle.line.specs.Steps.{sender, sendSteps};
 ghost use Rattle.line.specs.Promises.{FreshSender, SendStep, SendRun};
+use buffers::fill;
 use line::setting::Line;
 use line::setting::Ready;
 use line::setting::Sent;
@@ -11,7 +12,6 @@ use line::setting::advanced;
 use line::setting::line_refusal;
 use line::setting::next;
 use line::setting::period;
-use rings::fill;
 use rings::turn;
 
 // A line at position 0 whose memory is zeros: every sender starts here.

@@ -4,15 +4,14 @@ ghost use mathlib.Core.Path.{_≡_};
 ghost use Prim.Native.Nat.{_<_, _≤_};
 ghost use Rattle.word.specs.Answers.{outcome, encodeOutcome, encodes, decoded, decodedPart};
 ghost use Rattle.word.specs.Answers.Laws.{Refuses};
-use buffer::all_below;
-use buffer::copy;
-use buffer::join;
+use buffers::all_below;
+use buffers::copy;
+use buffers::join;
 use limits::refusal;
 use limits::symbols_of;
 use settle::settle;
 use steps::register::check_symbols;
 
-mod buffer;
 mod count;
 mod limits;
 mod settle;

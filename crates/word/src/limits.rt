@@ -5,7 +5,7 @@ ghost use Rattle.field.specs.Elements.{wide};
 ghost use Rattle.word.specs.Setting.{allowed};
 ghost use Rattle.word.specs.Answers.{refusal, sized, proper};
 use crate::Setting;
-use crate::buffer::all_below;
+use buffers::all_below;
 use field::is_field;
 
 // How many symbols there are: 2^m.

@@ -11,17 +11,17 @@ use Rattle.cross.specs.Cross.{opened}
 use Rattle.cross.proofs.codes.open_inner.Statement.{statement}
 use Rattle.cross.proofs.codes.open_inner.Tie as tie
 
-sub-copy-front : tie.Need-sub-copy-front
-sub-copy-front c = search needs
+sub-copy : tie.Need-sub-copy
+sub-copy c = search needs
 
-part-copy-front-start : tie.Need-part-copy-front-start
-part-copy-front-start c = search needs
+part-copy-start : tie.Need-part-copy-start
+part-copy-start c = search needs
 
-part-copy-front-end : tie.Need-part-copy-front-end
-part-copy-front-end c = omega (arith, c .before .before .pre .0)
+part-copy-end : tie.Need-part-copy-end
+part-copy-end c = omega (arith, c .before .before .pre .0)
 
-copy-front-requires : tie.Need-copy-front-requires
-copy-front-requires c κs =
+copy-requires : tie.Need-copy-requires
+copy-requires c κs =
     let word = c .before .before .before .before .args .word .now in
     let front : length (take 28 word) ≡ 28 = length-take-le 28 word (omega (arith, c .before .before .before .before .pre .0)) in
     omega (arith, front, c .before .before .before .before .pre .1)
@@ -49,7 +49,7 @@ unfolding opened
 returns c =
     let word = c .before .before .before .before .before .before .before .before .before .before .before .before .before .before .before .args .word .now in
     let d = c .before .before .before .decode-part in
-    let front = rw (c .before .before .before .before .before .before .before .before .before .before .before .before .before .before .before .pre .1) at (c .before .before .before .before .before .before .before .before .before .before .copy-front .ensures) in
+    let front = rw (c .before .before .before .before .before .before .before .before .before .before .before .before .before .before .before .pre .1) at (c .before .before .before .before .before .before .before .before .before .before .copy .ensures) in
     let whole : take 28 (take 28 word) ≡ take 28 word = take-all 28 (take 28 word) (omega (arith, length-take 28 word)) in
     let e : outcome (d .result) (d .last .1 .1 .1 .0) ≡ opened word = rw (c .before .before .before .before .before .before .inner-code .ensures, c .before .before .before .before .before .before .before .no-marks .ensures, front, whole) at (d .ensures) in
     (c .mark-of .ensures ∙ ap (λ (o : Outcome). ifZero (o .number) 0 1) e, ap (λ (o : Outcome). o .word) e)
@@ -58,10 +58,10 @@ pub open-inner-spec : {M : Type 1} → statement M
 open-inner-spec =
     tie.close
     (tie.spec
-    sub-copy-front
-    part-copy-front-start
-    part-copy-front-end
-    copy-front-requires
+    sub-copy
+    part-copy-start
+    part-copy-end
+    copy-requires
     no-marks-requires
     inner-code-requires
     slice-aggregate-decode-part

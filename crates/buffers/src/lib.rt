@@ -1,8 +1,8 @@
-// What a call asks of the bytes it is given, and a copy of them.
+// Plain work on lent buffers, which the crates above share: to fill one, to copy or join, and to look at every byte.
 ghost use mathlib.Core.Path.{_≡_};
 ghost use mathlib.Core.List.{_++_};
 ghost use Prim.Native.Nat.{_+_, _<_, _≤_};
-ghost use lib.ListN.{length, take};
+ghost use lib.ListN.{length, take, replicate};
 ghost use Rattle.algebra.specs.Tests.{at, below};
 
 // A byte as a count.
@@ -24,6 +24,17 @@ pub fn all_below(s: &[u8], q: usize) -> bool
         i += 1;
     }
     true
+}
+
+// Every byte of the buffer becomes the value.
+pub fn fill(buffer: &mut [u8], value: u8)
+    ensures { λ _. ⌜ now (buffer .exit) ≡ replicate (length (now (buffer .entry))) value ⌝ }
+{
+    let mut i = 0;
+    while i < buffer.len() {
+        buffer[i] = value;
+        i += 1;
+    }
 }
 
 // Fills the target with the front of the source.

@@ -1,4 +1,4 @@
--- `word::buffer::join` meets its contract. The loop's invariant: the first i bytes of the target are those of the two lists.
+-- `join` meets its contract. The loop's invariant: the first i bytes of the target are those of the two lists.
 -- Assumes nothing.
 use mathlib.Core.Path.{refl}
 use mathlib.Core.List.{_++_}
@@ -7,8 +7,8 @@ use native.Mathlib.Omega.{arith}
 use lib.ListN.{length, length-append}
 use Rattle.algebra.specs.Tests.{at}
 use Rattle.algebra.specs.Lists.{Filled, filled-none, filled-more, filled-front}
-use Rattle.word.proofs.buffer.join.Statement.{statement}
-use Rattle.word.proofs.buffer.join.Tie as tie
+use Rattle.buffers.proofs.join.Statement.{statement}
+use Rattle.buffers.proofs.join.Tie as tie
 
 abbrev Inv-loop : tie.InvT-loop
 Inv-loop first second target₀ i₀ target i = Filled (length target₀) (λ k. at (first ++ second) k) i target

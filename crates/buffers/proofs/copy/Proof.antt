@@ -1,4 +1,4 @@
--- `word::buffer::copy` meets its contract. The loop's invariant: the first i bytes of the target are those of the source.
+-- `copy` meets its contract. The loop's invariant: the first i bytes of the target are those of the source.
 -- Assumes nothing.
 use mathlib.Core.Path.{refl}
 use Prim.Native.Nat.{_-_}
@@ -6,8 +6,8 @@ use native.Mathlib.Omega.{arith}
 use lib.ListN.{length}
 use Rattle.algebra.specs.Tests.{at}
 use Rattle.algebra.specs.Lists.{Filled, filled-none, filled-more, filled-front}
-use Rattle.word.proofs.buffer.copy.Statement.{statement}
-use Rattle.word.proofs.buffer.copy.Tie as tie
+use Rattle.buffers.proofs.copy.Statement.{statement}
+use Rattle.buffers.proofs.copy.Tie as tie
 
 abbrev Inv-loop : tie.InvT-loop
 Inv-loop source target₀ i₀ target i = Filled (length target₀) (λ k. at source k) i target

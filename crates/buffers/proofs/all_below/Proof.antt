@@ -1,4 +1,4 @@
--- `word::buffer::all_below` meets its contract. The loop's invariant: what is left of the list decides the answer as the whole list does.
+-- `all_below` meets its contract. The loop's invariant: what is left of the list decides the answer as the whole list does.
 -- Assumes nothing.
 use mathlib.Core.Path.{_≡_}
 use Prim.Native.Nat.{_-_, _≤_}
@@ -6,8 +6,8 @@ use native.Mathlib.Omega.{arith}
 use borrow.Author.Needs.{needs}
 use lib.ListN.{drop, length}
 use Rattle.algebra.specs.Tests.{below, below-stop, below-more, below-end}
-use Rattle.word.proofs.buffer.all_below.Statement.{statement}
-use Rattle.word.proofs.buffer.all_below.Tie as tie
+use Rattle.buffers.proofs.all_below.Statement.{statement}
+use Rattle.buffers.proofs.all_below.Tie as tie
 
 abbrev Inv-loop : tie.InvT-loop
 Inv-loop s q i₀ i = (i ≤ length s) × (below q (drop i s) ≡ below q s)

@@ -7,8 +7,8 @@ use lib.ListN.{length, replicate}
 use mathlib.Core.List.{List, _∷_}
 use Prim.Native.Nat.{zero, suc}
 use Rattle.algebra.specs.Lists.{tabulate, Filled, filled-none, filled-more, filled-all}
-use Rattle.rings.proofs.fill.Statement.{statement}
-use Rattle.rings.proofs.fill.Tie as tie
+use Rattle.buffers.proofs.fill.Statement.{statement}
+use Rattle.buffers.proofs.fill.Tie as tie
 
 all-alike : (n v : ℕ) → tabulate n (λ _. v) ≡ replicate n v
 unfolding tabulate

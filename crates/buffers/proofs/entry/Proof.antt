@@ -1,4 +1,4 @@
--- `word::buffer::entry` meets its contract: an entry of two lists, one behind the other, is one of the first or of the second.
+-- `entry` meets its contract: an entry of two lists, one behind the other, is one of the first or of the second.
 -- Assumes nothing.
 use mathlib.Core.Path.{_≡_, sym, ap, _∙_}
 use mathlib.Core.List.{List, _++_}
@@ -8,8 +8,8 @@ use borrow.Author.Needs.{needs}
 use lib.ListN.{length, List·getD-append}
 use lib.Seq.{getD-append-add}
 use Rattle.algebra.specs.Tests.{at}
-use Rattle.word.proofs.buffer.entry.Statement.{statement}
-use Rattle.word.proofs.buffer.entry.Tie as tie
+use Rattle.buffers.proofs.entry.Statement.{statement}
+use Rattle.buffers.proofs.entry.Tie as tie
 
 behind : (xs ys : List ℕ) (i : ℕ) → length xs ≤ i → at (xs ++ ys) i ≡ at ys (i - length xs)
 behind xs ys i h =
