@@ -3,16 +3,18 @@ ghost use mathlib.Core.Path.{_≡_};
 ghost use Prim.Native.Nat.{_<_, _≤_};
 ghost use Rattle.steps.specs.Places.{Locators};
 ghost use Rattle.steps.specs.Peeling.{Peeled, PeeledAll, distanceOf};
+use field::lanes::products;
 use field::shifts::times;
 
 // The sums without a place of locator x: one less of them counts.
 pub fn peel(m: usize, sums: [u8; 16], x: u8) -> [u8; 16]
     ensures { λ r. ⌜ Peeled m x sums r ⌝ }
 {
-    let mut rest = sums;
+    let products = products(m, [x; 16], sums);
+    let mut rest = products;
     let mut j = 0;
     while j < 15 {
-        rest[j] = times(m, sums[j], x) ^ sums[j + 1];
+        rest[j] = products[j] ^ sums[j + 1];
         j += 1;
     }
     rest
