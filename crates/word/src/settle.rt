@@ -63,7 +63,7 @@ fn repair(s: Setting, marks: &[u8], f: usize, sums: [u8; 16], word: &mut [u8]) -
     let n = s.n;
     let t = (s.r - f) / 2;
     let locators = locators(m, n);
-    let peeled = peel_all(m, n, &locators, marks, n, sums);
+    let peeled = peel_all(m, n, &locators, marks, sums);
     let v = kernel(m, t, peeled);
     let flags = candidates(m, n, marks, &v, t + 1, &locators);
     correct(m, n, s.b, &locators, &flags, sums, word)
