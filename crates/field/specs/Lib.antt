@@ -7,3 +7,4 @@ pub mod Gf8
 pub mod Elements
 pub mod Answers
 pub mod Once
+pub mod Lanes

@@ -5,6 +5,7 @@ ghost use Rattle.field.specs.Answers.{isField, isElement, productOf, pow
 ghost use Rattle.field.specs.Elements.{wide};
 ghost use Rattle.algebra.specs.Xor.{_⊕_};
 
+pub mod lanes;
 pub mod shifts;
 pub mod tables;
 

@@ -11,7 +11,7 @@ use lib.ListN.{length, set, replicate, length-set, length-replicate, getD-replic
 use lib.Seq.{getD-set-same, getD-set-other}
 use Rattle.algebra.specs.Sets.{either, one, one-yes, one-no, one-most}
 use Rattle.algebra.specs.Tests.{at}
-use Rattle.algebra.specs.Lists.{Filled}
+use Rattle.algebra.specs.Lists.{Filled, filled-more}
 use Rattle.algebra.specs.Horner.{pow}
 use Rattle.algebra.specs.Polynomials.{ev, ev-ext}
 use Rattle.field.specs.Elements.{wide, K, prod}
@@ -109,6 +109,15 @@ locator-next m n i x a h e = let s : n - (i - 1) ≡ suc (n - i) = omega arith i
 
 -- ---- the loops that take a polynomial's value, from the highest coefficient down
 
+-- what point i holds after one turn, by a product whose m is a number k of the same width
+unfoldable pub raisedAt : (m symbol : ℕ) (values points : List ℕ) → ℕ → ℕ
+raisedAt m symbol values points = laneAfter m symbol values points
+
+pub raised-more : (m k symbol : ℕ) (values points : List ℕ) (i : ℕ) (next : List ℕ) (p : ℕ) → wide m ≡ wide k → i < 255 → p ≡ prod k (at values i) (at points i)
+    → Filled 255 (raisedAt m symbol values points) i next → Filled 255 (raisedAt m symbol values points) (i + 1) (set next i (bitXor p symbol))
+unfolding raisedAt
+raised-more m k symbol values points i next p w l e = filled-more 255 _ i next _ l (rw (e, w))
+
 module _ (m d : ℕ) (v : List ℕ) where
   -- the value at x of the coefficients from l on, with the l-th power of x taken out
   unfoldable pub upper : (x l : ℕ) → ℕ
@@ -144,7 +153,8 @@ module _ (m d : ℕ) (v : List ℕ) where
     uppers-none h = record { size = length-replicate {A = ℕ} 255 0; first = λ i a. getD-replicate {A = ℕ} 255 i 0 0 (omega arith) ∙ upper-none (at points i) }
 
     pub uppers-more : (l : ℕ) (sums next : List ℕ)
-        → 0 < l → l ≤ d → Filled 255 (laneAfter m (at v (l - 1)) sums points) n next → Uppers l sums → Uppers (l - 1) next
+        → 0 < l → l ≤ d → Filled 255 (raisedAt m (at v (l - 1)) sums points) n next → Uppers l sums → Uppers (l - 1) next
+    unfolding raisedAt
     uppers-more l sums next a h p q = record { size = p .size; first = λ i b. p .first i b ∙ upper-more (at points i) l _ a h (q .first i b) }
 
     pub uppers-all : (l : ℕ) (sums : List ℕ) → l ≤ 0 → Uppers l sums → Filled 255 (λ i. ev (K m) d (λ l. at v l) (at points i)) n sums

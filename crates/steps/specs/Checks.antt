@@ -12,12 +12,13 @@ use lib.Pow.{pow-pos}
 use lib.Seq.{ext-getD, take-at, drop-cons, getD-set-same, getD-set-other}
 use Rattle.algebra.specs.Tests.{at}
 use Rattle.algebra.specs.Xor.{_⊕_}
-use Rattle.algebra.specs.Lists.{tabulate, length-tabulate, getD-tabulate, tabulated, Filled, filled-none, filled-more, filled-all}
+use Rattle.algebra.specs.Lists.{tabulated, Filled, filled-none, filled-more, filled-all}
 use Rattle.algebra.specs.Numbers.{rest-below}
 use Rattle.algebra.specs.Horner.{pow, horner}
 use Rattle.algebra.specs.Register.{grow, generator, sweep, sweep-length, sweep-at, sweep-grow, fed, fed-at, fed-length, remainder, behind, checks, checks-length, checks-root, checks-in, checks-zeros}
 use Rattle.field.specs.Field.{times, reduce, product}
 use Rattle.field.specs.Elements.{wide, known, numbers, K, prod}
+use Rattle.field.specs.Lanes.{Products, scaled-right}
 use Rattle.steps.specs.Places.{root}
 
 -- the monic polynomial with r of these roots, in the sixteen places of a register
@@ -34,17 +35,6 @@ pub en300421-generator : generator (K 8) (root 8 0) 16 ≡ 59 ∷ 13 ∷ 104 ∷
 unfolding generator grow pow wide product times reduce _⊕_
 en300421-generator = refl
 
--- ---- f times each entry
-
-unfoldable pub scaledAt : ℕ → ℕ → List ℕ → ℕ → ℕ
-scaledAt m f entries i = prod m (at entries i) f
-
--- a turn, with a product whose m is a number k of the same width
-pub scaled-more : (m k f : ℕ) (entries : List ℕ) (i : ℕ) (products : List ℕ) (p : ℕ) → wide m ≡ wide k → i < 16 → p ≡ prod k (at entries i) f
-    → Filled 16 (scaledAt m f entries) i products → Filled 16 (scaledAt m f entries) (i + 1) (set products i p)
-unfolding scaledAt
-scaled-more m k f entries i products p w l e = filled-more 16 _ i products p l (rw w e)
-
 -- ---- the product by x + p, entry by entry
 
 -- the coefficient before the one at i is `at (1 ∷ polynomial) i`
@@ -55,12 +45,12 @@ pub swept-first : (m p : ℕ) (polynomial : List ℕ) (t : ℕ) → length polyn
 unfolding sweptAt
 swept-first m p polynomial t n e = filled-more 16 _ 0 polynomial _ (omega arith) (rw e) (filled-none 16 _ polynomial n)
 
-pub swept-more : (m p : ℕ) (polynomial products product : List ℕ) (i : ℕ) → 0 < i → i < 16 → products ≡ tabulate 16 (scaledAt m p polynomial)
+pub swept-more : (m p : ℕ) (polynomial products product : List ℕ) (i : ℕ) → 0 < i → i < 16 → Products m polynomial (replicate 16 p) products
     → Filled 16 (sweptAt m p polynomial) i product → Filled 16 (sweptAt m p polynomial) (i + 1) (set product i (bitXor (at polynomial i) (at products (i - 1))))
-unfolding scaledAt sweptAt
+unfolding sweptAt
 swept-more m p polynomial products product i u l e f =
     let k : suc (i - 1) ≡ i = omega arith in
-    filled-more 16 _ i product _ l (rw (e, getD-tabulate {A = ℕ} 16 _ (i - 1) 0 (omega arith)) (ap (λ (z : ℕ). bitXor (at polynomial i) (prod m (at (1 ∷ polynomial) z) p)) k)) f
+    filled-more 16 _ i product _ l (rw (scaled-right m p polynomial products e (i - 1) (omega arith)) (ap (λ (z : ℕ). bitXor (at polynomial i) (prod m (at (1 ∷ polynomial) z) p)) k)) f
 
 pub swept-all : (m p : ℕ) (polynomial product : List ℕ) (i : ℕ) → length polynomial ≡ 16 → 16 ≤ i → Filled 16 (sweptAt m p polynomial) i product → product ≡ sweep (K m) p 1 polynomial
 unfolding sweptAt
@@ -109,12 +99,11 @@ moving-at register products s next l h i = elim (decLt i s) [
 ]
 
 pub moving-all : (m symbol : ℕ) (register g products : List ℕ) (s : ℕ) (next : List ℕ) → length register ≡ 16 → length g ≡ 16 → 15 ≤ s
-    → products ≡ tabulate 16 (scaledAt m (bitXor symbol (at register 0)) g) → Moving register products s next → next ≡ fed (K m) g symbol register
-unfolding scaledAt
+    → Products m g (replicate 16 (bitXor symbol (at register 0))) products → Moving register products s next → next ≡ fed (K m) g symbol register
 moving-all m symbol register g products s next a b l e h =
-    let n : length next ≡ 16 = h .size ∙ ap length e ∙ length-tabulate 16 _ in
+    let n : length next ≡ 16 = h .size ∙ e .size in
     ext-getD 0 next (fed (K m) g symbol register) (n ∙ sym (fed-length (K m) g symbol register (a ∙ sym b) ∙ b))
-    (λ i k. moving-at register products s next (omega arith) h i ∙ rw (e, getD-tabulate {A = ℕ} 16 _ i 0 (omega arith)) (sym (fed-at (K m) g symbol register i (a ∙ sym b))))
+    (λ i k. moving-at register products s next (omega arith) h i ∙ rw (scaled-right m _ g products e i (omega arith)) (sym (fed-at (K m) g symbol register i (a ∙ sym b))))
 
 -- ---- the message divided
 

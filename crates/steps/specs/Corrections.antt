@@ -23,6 +23,7 @@ use Rattle.field.specs.Products.{product-one, product-below}
 use Rattle.field.specs.Elements.{K, wide, prod, known, one-below, two-below, prod-small}
 use Rattle.steps.specs.Places.{locator, spots, spare}
 use Rattle.steps.specs.Peeling.{peeledOf, distanceOf}
+use Rattle.steps.specs.Listing.{Listed}
 
 -- the weight of coefficient k in the first power sum of a code whose roots begin at a^b
 abbrev pub weightOf : ℕ → ℕ → ℕ → ℕ
@@ -38,6 +39,10 @@ pub record ErrorAt (m n b : ℕ) (flags sums : List ℕ) (p e : ℕ) : Type 0 wh
   pub small : e < 2 ^ wide m
   pub value : ¬ K m .Z (distanceOf m n flags p (weightOf m b (n - suc p))) → count (spare flags p n) n < 16
       → K m .Z (bitXor (prod m e (distanceOf m n flags p (weightOf m b (n - suc p)))) (peeledOf m n flags p sums 0))
+
+-- the same of listed places, whatever flags these are
+abbrev pub ErrorListed : (m n b : ℕ) (places : List ℕ) (c : ℕ) (sums : List ℕ) (p e : ℕ) → Type 0
+ErrorListed m n b places c sums p e = (flags : List ℕ) → Listed n flags c places → ErrorAt m n b flags sums p e
 
 -- the power sums of one symbol: y, y x, y x^2, ..
 unfoldable pub course : ℕ → ℕ → ℕ → ℕ → ℕ

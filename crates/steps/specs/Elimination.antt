@@ -15,7 +15,7 @@ use lib.Seq.{getD-set-same, getD-set-other}
 use Rattle.algebra.specs.Sets.{count, count-all, count-pos, count-drop}
 use Rattle.algebra.specs.Tests.{at, each, each-at, below, below-at}
 use Rattle.algebra.specs.Lists.{Filled}
-use Rattle.algebra.specs.Kernel.{Fine, Fine-unit, Fine-keep, Fine-comb, Fine-ext, comb, dot-ext}
+use Rattle.algebra.specs.Kernel.{Fine, Fine-unit, Fine-keep, Fine-comb, Fine-ext, Fine-same, comb, dot-ext}
 use Rattle.field.specs.Elements.{K, wide, known, one-below}
 use Rattle.steps.specs.Rows.{row, rowDot, Combined}
 
@@ -34,7 +34,7 @@ pub record KernelVector (m t : ℕ) (sums r : List ℕ) : Type 0 where
 
 -- after j windows: each vector alive is orthogonal to them, and at most j have died
 pub record Eliminated (m d : ℕ) (sums : List ℕ) (j : ℕ) (v alive : List ℕ) : Type 0 where
-  pub size : length v ≡ 81
+  pub size : length v ≡ 88
   pub flags : length alive ≡ 9
   pub fine : (s : ℕ) → s < d → 0 < at alive s → Vec m d sums j v s
   pub many : d ≤ j + count (living alive) d
@@ -43,11 +43,11 @@ pub record Eliminated (m d : ℕ) (sums : List ℕ) (j : ℕ) (v alive : List �
 
 -- the first s rows have their 1 on the diagonal, and all behind the diagonal is 0
 pub record Units (s : ℕ) (v : List ℕ) : Type 0 where
-  pub size : length v ≡ 81
+  pub size : length v ≡ 88
   pub ones : (i : ℕ) → i < s → at v (i * 10) ≡ 1
   pub zeros : (i l : ℕ) → i < l → l < 9 → at v (i * 9 + l) ≡ 0
 
-pub units-none : (v : List ℕ) → length v ≡ 81 → T (below 1 v) → Units 0 v
+pub units-none : (v : List ℕ) → length v ≡ 88 → T (below 1 v) → Units 0 v
 units-none v e z = record { size = e; ones = λ i h. absurd (not-suc-le-zero h); zeros = λ i l a b. omega (arith, below-at 1 v z (i * 9 + l) (omega arith)) }
 
 pub units-more : {s : ℕ} {v : List ℕ} → Units s v → s < 9 → Units (s + 1) (set v (s * 10) 1)
@@ -120,7 +120,7 @@ module _ {m d : ℕ} {sums : List ℕ} {j : ℕ} {v alive : List ℕ} where
 
 -- half way: the vectors before s are orthogonal to the window at j too; x is the product of the pivot p and the window
 pub record Clearing (m d : ℕ) (sums : List ℕ) (j p x s : ℕ) (v alive : List ℕ) : Type 0 where
-  pub size : length v ≡ 81
+  pub size : length v ≡ 88
   pub flags : length alive ≡ 9
   pub past : (i : ℕ) → i < s → 0 < at alive i → Vec m d sums (suc j) v i
   pub next : (i : ℕ) → s ≤ i → i < d → 0 < at alive i → Vec m d sums j v i
@@ -202,8 +202,11 @@ module _ {m d : ℕ} {sums : List ℕ} {j : ℕ} {v alive : List ℕ} where
 pub living-more : (alive : List ℕ) (d s : ℕ) → 0 < count (living alive) d → ((i : ℕ) → i < s → at alive i ≡ 0) → s < d
 living-more alive d s h f = let (k, l, a) = count-pos (living alive) d h in elim (decLt k s) [ yes g ↦ absurd (omega (arith, f k g)) | no g ↦ omega arith ]
 
-pub kernel-vector : {m t j : ℕ} {sums v alive r : List ℕ} (s : ℕ) → t ≤ 8 → j ≡ t → Eliminated m (t + 1) sums j v alive → s < t + 1 → 0 < at alive s → Filled 9 (row v (s * 9)) 9 r → KernelVector m t sums r
-kernel-vector {m} {t} {j} {sums} {v} {alive} {r} s h e ε l a f = record {
+-- the sums with room behind them are the sums, as far as a window reaches
+pub kernel-vector : {m t j : ℕ} {sums long v alive r : List ℕ} (s : ℕ) → t ≤ 8 → j ≡ t → Filled 24 (at sums) 16 long → Eliminated m (t + 1) long j v alive → s < t + 1 → 0 < at alive s
+    → Filled 16 (row v (s * 9)) 16 r → KernelVector m t sums r
+kernel-vector {m} {t} {j} {sums} {long} {v} {alive} {r} s h e p ε l a f = record {
   degree = s;
-  fine = Fine-ext (K m) (suc t) (at sums) t (row v (s * 9)) (at r) s (λ i g. f .first i (omega arith)) (rw (add-one, e) at (ε .fine s l a));
+  fine = Fine-same (K m) (suc t) (at long) (at sums) t (at r) s (λ i g. p .first i (omega arith))
+      (Fine-ext (K m) (suc t) (at long) t (row v (s * 9)) (at r) s (λ i g. f .first i (omega arith)) (rw (add-one, e) at (ε .fine s l a)));
 }

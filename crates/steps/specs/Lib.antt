@@ -2,6 +2,7 @@ pub mod Places
 pub mod Checks
 pub mod Syndromes
 pub mod Peeling
+pub mod Listing
 pub mod Rows
 pub mod Elimination
 pub mod Candidates

@@ -7,13 +7,14 @@ use Prim.Native.Nat.{ℕ, suc, _+_, _-_, _<_, _≤_}
 use native.Mathlib.Omega.{arith}
 use native.Mathlib.Numerals.{add-one}
 use lib.Bits.{bitXor}
-use lib.ListN.{set}
+use lib.ListN.{set, replicate}
 use Rattle.algebra.specs.Lists.{Filled, filled-more}
 use Rattle.algebra.specs.Ring.{mul-comm}
 use Rattle.algebra.specs.Tests.{at}
 use Rattle.algebra.specs.Sets.{count, one-yes, one-no}
 use Rattle.algebra.specs.Peel.{peel, peels, peels-zero, peels-yes, peels-no, far, far-zero, far-yes, far-no}
 use Rattle.field.specs.Elements.{K, prod}
+use Rattle.field.specs.Lanes.{Products, scaled-left}
 use Rattle.steps.specs.Places.{locator, spare}
 
 -- the sums without a place of locator x
@@ -38,9 +39,9 @@ distanceOf m n flags p start = far (K m) (λ k. locator m k) (spare flags p n) n
 
 -- ---- one place, by a loop that fills the sums from the front
 
-pub peel-more : (m x : ℕ) (sums : List ℕ) {j y : ℕ} {rest : List ℕ} → j < 15 → y ≡ prod m (at sums j) x → Filled 16 (without m x sums) j rest
-    → Filled 16 (without m x sums) (j + 1) (set rest j (bitXor y (at sums (j + 1))))
-peel-more m x sums {j} l e o = filled-more 16 _ j _ _ (omega arith) (rw (e, add-one, mul-comm (K m) (at sums j) x)) o
+pub peel-more : (m x : ℕ) (sums products : List ℕ) {j : ℕ} {rest : List ℕ} → j < 15 → Products m (replicate 16 x) sums products → Filled 16 (without m x sums) j rest
+    → Filled 16 (without m x sums) (j + 1) (set rest j (bitXor (at products j) (at sums (j + 1))))
+peel-more m x sums products {j} l p o = filled-more 16 _ j _ _ (omega arith) (rw (scaled-left m x sums products p j (omega arith), add-one)) o
 
 -- ---- the flagged places, as a loop that counts up comes by the coefficients, which the theory counts down
 

@@ -6,13 +6,15 @@ use Prim.Native.Nat.{ℕ, suc, _+_, _-_, _≤_, _<_}
 use native.Mathlib.Decide.{ℕ-discrete}
 use native.Mathlib.Nat.{not-suc-le-zero}
 use native.Mathlib.Omega.{arith}
-use lib.ListN.{length, set, length-set}
+use lib.ListN.{length, set, replicate, length-set}
 use lib.Seq.{getD-set-same, getD-set-other}
 use lib.Bits.{bitXor, xor-zero-r}
 use Rattle.algebra.specs.Tests.{at}
+use Rattle.algebra.specs.Lists.{Filled}
 use Rattle.algebra.specs.Xor.{xor-assoc}
 use Rattle.algebra.specs.Kernel.{dot, dot-zero, dot-suc, dot-ext}
 use Rattle.field.specs.Elements.{K, prod}
+use Rattle.field.specs.Lanes.{Products, scaled-left}
 
 -- the numbers of v from b on
 abbrev pub row : List ℕ → ℕ → ℕ → ℕ
@@ -44,13 +46,15 @@ module _ {m d : ℕ} {v : List ℕ} {b : ℕ} {sums : List ℕ} {j : ℕ} where
         rw (e, f, g);
   }
 
-  pub dotted-more : {l sum : ℕ} (y : ℕ) → Dotted m d v b sums j l sum → l < d → y ≡ prod m (at v (b + l)) (at sums (j + l)) → Dotted m d v b sums j (l + 1) (bitXor sum y)
-  dotted-more {l} {sum} y p h e = record {
+  pub dotted-more : {l sum : ℕ} {r w products : List ℕ} → Dotted m d v b sums j l sum → l < d → d ≤ 16 → Filled 16 (row v b) 16 r → Filled 16 (row sums j) 16 w
+      → Products m r w products → Dotted m d v b sums j (l + 1) (bitXor sum (at products l))
+  dotted-more {l} {sum} {r} {w} {products} p h u s t q = record {
     within = omega arith;
     rest =
         let f : d - l ≡ suc (d - (l + 1)) = omega arith in
         let g : b + (l + 1) ≡ suc (b + l) = omega arith in
         let k : j + (l + 1) ≡ suc (j + l) = omega arith in
+        let e : at products l ≡ prod m (at v (b + l)) (at sums (j + l)) = rw (q .each l (omega arith), s .first l (omega arith), t .first l (omega arith)) in
         rw (g, k, e) (xor-assoc sum _ _ ∙ rw (f, rowDot-suc m (d - (l + 1)) v (b + l) sums (j + l)) at (p .rest));
   }
 
@@ -60,7 +64,7 @@ module _ {m d : ℕ} {v : List ℕ} {b : ℕ} {sums : List ℕ} {j : ℕ} where
       let e : d - l ≡ 0 = omega arith in
       rw (e, dot-zero (K m) (row v (b + l)) (at sums) (j + l), xor-zero-r) at (p .rest)
 
--- ---- a row that takes in an earlier one
+-- ---- a row that takes in another one
 
 -- the row at b of t is that of s times x, plus the row at c times y; all else is as it was
 pub record Combined (m b c d x y : ℕ) (s t : List ℕ) : Type 0 where
@@ -73,15 +77,18 @@ module _ {m b c x y : ℕ} {s : List ℕ} where
   pub combined-none : Combined m b c 0 x y s s
   combined-none = record { size = refl; new = λ l h. absurd (not-suc-le-zero h); low = λ i h. refl; high = λ i h. refl }
 
-  -- a turn of the loop that makes it, in place
-  pub combined-more : {l : ℕ} {t : List ℕ} (p q : ℕ) → Combined m b c l x y s t → c + l < b → b + l < length t → p ≡ prod m x (at t (b + l)) → q ≡ prod m y (at t (c + l))
-      → Combined m b c (l + 1) x y s (set t (b + l) (bitXor p q))
-  combined-more {l} {t} p q κ g h e f = record {
-    size = length-set t (b + l) (bitXor p q) ∙ κ .size;
-    new = λ i u. elim (ℕ-discrete i l) [
-      | yes a ↦ rw (a, getD-set-same t (b + l) (bitXor p q) 0 h, e, f, κ .high (b + l) (omega arith), κ .low (c + l) g)
-      | no a ↦ getD-set-other t (b + l) (b + i) (bitXor p q) 0 (omega arith) ∙ κ .new i (omega arith)
-    ];
-    low = λ i u. getD-set-other t (b + l) i (bitXor p q) 0 (omega arith) ∙ κ .low i u;
-    high = λ i u. getD-set-other t (b + l) i (bitXor p q) 0 (omega arith) ∙ κ .high i (omega arith);
-  }
+  -- a turn of the loop that makes it, from the products of the two rows as they were
+  pub combined-more : {l : ℕ} {t r q own other : List ℕ} → Combined m b c l x y s t → l < 16 → b + l < length s → Filled 16 (row s b) 16 r → Filled 16 (row s c) 16 q
+      → Products m (replicate 16 x) r own → Products m (replicate 16 y) q other → Combined m b c (l + 1) x y s (set t (b + l) (bitXor (at own l) (at other l)))
+  combined-more {l} {t} {r} {q} {own} {other} κ k h f g o u =
+      let e : bitXor (at own l) (at other l) ≡ bitXor (prod m x (at s (b + l))) (prod m y (at s (c + l))) =
+      rw (scaled-left m x r own o l k, scaled-left m y q other u l k, f .first l k, g .first l k) in
+      record {
+        size = length-set t (b + l) _ ∙ κ .size;
+        new = λ i v. elim (ℕ-discrete i l) [
+          | yes a ↦ rw (a, getD-set-same t (b + l) _ 0 (omega (arith, κ .size))) e
+          | no a ↦ getD-set-other t (b + l) (b + i) _ 0 (omega arith) ∙ κ .new i (omega arith)
+        ];
+        low = λ i v. getD-set-other t (b + l) i _ 0 (omega arith) ∙ κ .low i v;
+        high = λ i v. getD-set-other t (b + l) i _ 0 (omega arith) ∙ κ .high i (omega arith);
+      }

@@ -1,6 +1,6 @@
 -- The values of a word at the roots of a code, and what they are to the theory: its power sums.
 -- Assumes nothing.
-use mathlib.Core.Path.{_≡_, refl}
+use mathlib.Core.Path.{_≡_, refl, _∙_}
 use mathlib.Core.Bool.{Bool, true, false}
 use mathlib.Core.List.{List}
 use mathlib.Core.Logic.{_≢_}
@@ -16,6 +16,7 @@ use Rattle.algebra.specs.Lists.{Filled}
 use Rattle.algebra.specs.Peel.{Rep}
 use Rattle.algebra.specs.Horner.{horner, coef, syndromes}
 use Rattle.field.specs.Elements.{wide, K, prod}
+use Rattle.field.specs.Lanes.{Products}
 use Rattle.steps.specs.Places.{root, spots}
 
 -- the list holds the word's values at the first sixteen roots
@@ -39,6 +40,10 @@ partial-none m b w j l = rw (getD-replicate {A = ℕ} 16 j 0 0 l)
 -- what lane j holds once a symbol is taken in
 abbrev pub laneAfter : (m symbol : ℕ) (values points : List ℕ) → ℕ → ℕ
 laneAfter m symbol values points j = bitXor (prod m (at values j) (at points j)) symbol
+
+pub taken-in : (m symbol : ℕ) (values points products next : List ℕ) {s : ℕ} → 16 ≤ s → Products m values points products → Filled 16 (λ j. bitXor (at products j) symbol) s next
+    → Filled 16 (laneAfter m symbol values points) 16 next
+taken-in m symbol values points products next h p q = record { size = q .size; first = λ j l. q .first j (omega arith) ∙ rw (p .each j l) }
 
 pub partial-more : (m b : ℕ) (w : List ℕ) (i : ℕ) (values points next : List ℕ) → i < length w → Filled 16 (root m b) 16 points
     → Filled 16 (laneAfter m (at w i) values points) 16 next → Partial m b w i values → Partial m b w (i + 1) next

@@ -2,9 +2,11 @@
 ghost use mathlib.Core.Path.{_≡_};
 ghost use Prim.Native.Nat.{_<_, _≤_};
 ghost use Rattle.steps.specs.Places.{Locators};
-ghost use Rattle.steps.specs.Corrections.{Weighs, ErrorAt, TakenOut, Corrected};
+ghost use Rattle.steps.specs.Listing.{Inside};
+ghost use Rattle.steps.specs.Corrections.{Weighs, ErrorListed, TakenOut, Corrected};
 use crate::peel::distance;
-use crate::peel::peel_all;
+use crate::peel::list;
+use crate::peel::peel_listed;
 use field::shifts::times;
 use field::tables::inverse_at;
 
@@ -19,23 +21,24 @@ fn weight(b: usize, x: u8) -> u8
     x
 }
 
-// The error at place p, where all errors are at flagged places: what is left of the power sums when the others are peeled, by the
+// The error at place p, where all errors are at listed places: what is left of the power sums when the others are peeled, by the
 // distance of p from them.
 pub fn error_value(
     m: usize,
     n: usize,
     b: usize,
     locators: &[u8; 255],
-    flags: &[u8],
+    places: &[u8; 255],
+    count: usize,
     sums: [u8; 16],
     p: usize,
 ) -> u8
-    requires { do ⌜ (n ≤ 255) × (n ≤ (← ⟦flags.len()⟧)) × (p < n) × (b ≤ 1) ⌝ }
+    requires { ⌜ (n ≤ 255) × (count ≤ n) × (p < n) × (b ≤ 1) × Inside n count (now places) ⌝ }
     requires { ⌜ Locators m n (now locators) ⌝ }
-    ensures { λ r. ⌜ ErrorAt m n b (now (flags .entry)) sums p r ⌝ }
+    ensures { λ r. ⌜ ErrorListed m n b (now (places .entry)) count sums p r ⌝ }
 {
-    let rest = peel_all(m, n, locators, flags, p, sums);
-    let far = distance(m, n, locators, flags, p, weight(b, locators[p]));
+    let rest = peel_listed(m, n, locators, places, count, p, sums);
+    let far = distance(m, n, locators, places, count, p, weight(b, locators[p]));
     times(m, rest[0], inverse_at(m, far))
 }
 
@@ -69,12 +72,14 @@ pub fn correct(
     requires { ⌜ Locators m n (now locators) ⌝ }
     ensures { λ r. ⌜ Corrected m n b (now (flags .entry)) sums (now (word .entry)) (now (word .exit)) r ⌝ }
 {
+    let mut places: [u8; 255] = [0; 255];
+    let count = list(n, flags, &mut places);
     let mut rest = sums;
     let mut i = 0;
     while i < n {
         if flags[i] != 0 {
             let x = locators[i];
-            let e = error_value(m, n, b, locators, flags, sums, i);
+            let e = error_value(m, n, b, locators, &places, count, sums, i);
             word[i] = word[i] ^ e;
             let left = take_out(m, rest, times(m, e, weight(b, x)), x);
             rest = left;

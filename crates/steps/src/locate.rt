@@ -7,8 +7,7 @@ ghost use Rattle.algebra.specs.Lists.{Filled};
 ghost use Rattle.algebra.specs.Polynomials.{ev};
 ghost use Rattle.field.specs.Elements.{K};
 ghost use Rattle.steps.specs.Places.{Locators};
-ghost use Rattle.steps.specs.Syndromes.{laneAfter};
-ghost use Rattle.steps.specs.Candidates.{flagOf, Candidates};
+ghost use Rattle.steps.specs.Candidates.{flagOf, raisedAt, Candidates};
 use field::shifts::double;
 use field::shifts::low;
 use field::shifts::times;
@@ -29,22 +28,26 @@ pub fn locators(m: usize, n: usize) -> [u8; 255]
     table
 }
 
-// One turn of Horner's rule at each of the first n points.
+// One turn of Horner's rule at each of the first n points. The product stands twice for the reason given at `field::lanes::products`.
 fn raise(m: usize, n: usize, values: [u8; 255], points: &[u8; 255], symbol: u8) -> [u8; 255]
     requires { ⌜ n ≤ 255 ⌝ }
-    ensures { λ r. ⌜ Filled 255 (laneAfter m symbol values (now (points .entry))) n r ⌝ }
+    ensures { λ r. ⌜ Filled 255 (raisedAt m symbol values (now (points .entry))) n r ⌝ }
 {
     let mut next: [u8; 255] = [0; 255];
     let mut i = 0;
     while i < n {
-        next[i] = times(m, values[i], points[i]) ^ symbol;
+        if m == 3 {
+            next[i] = times(3, values[i], points[i]) ^ symbol;
+        } else {
+            next[i] = times(8, values[i], points[i]) ^ symbol;
+        }
         i += 1;
     }
     next
 }
 
 // The values of the polynomial at the first n points: by turns over all points, since that is vector code.
-fn values(m: usize, n: usize, v: &[u8; 9], d: usize, points: &[u8; 255]) -> [u8; 255]
+fn values(m: usize, n: usize, v: &[u8; 16], d: usize, points: &[u8; 255]) -> [u8; 255]
     requires { ⌜ (n ≤ 255) × (d ≤ 9) ⌝ }
     ensures { λ r. ⌜ Filled 255 (λ i. ev (K m) d (λ l. at (now (v .entry)) l) (at (now (points .entry)) i)) n r ⌝ }
 {
@@ -76,7 +79,7 @@ pub fn candidates(
     m: usize,
     n: usize,
     marks: &[u8],
-    v: &[u8; 9],
+    v: &[u8; 16],
     d: usize,
     locators: &[u8; 255],
 ) -> [u8; 255]

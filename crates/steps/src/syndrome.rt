@@ -5,9 +5,9 @@ ghost use Prim.Native.Nat.{_≤_};
 ghost use Rattle.algebra.specs.Lists.{Filled};
 ghost use Rattle.steps.specs.Places.{root};
 ghost use Rattle.steps.specs.Syndromes.{laneAfter, Syndromes, allZero};
+use field::lanes::products;
 use field::shifts::double;
 use field::shifts::low;
-use field::shifts::times;
 use field::tables::power_at;
 
 // The points a^b, .., a^(b + 15).
@@ -26,13 +26,14 @@ fn points(m: usize, b: usize) -> [u8; 16]
 }
 
 // One turn of Horner's rule in each lane.
-fn take_in(m: usize, values: [u8; 16], points: &[u8; 16], symbol: u8) -> [u8; 16]
-    ensures { λ r. ⌜ Filled 16 (laneAfter m symbol values (now (points .entry))) 16 r ⌝ }
+fn take_in(m: usize, values: [u8; 16], points: [u8; 16], symbol: u8) -> [u8; 16]
+    ensures { λ r. ⌜ Filled 16 (laneAfter m symbol values points) 16 r ⌝ }
 {
+    let products = products(m, values, points);
     let mut next: [u8; 16] = [0; 16];
     let mut j = 0;
     while j < 16 {
-        next[j] = times(m, values[j], points[j]) ^ symbol;
+        next[j] = products[j] ^ symbol;
         j += 1;
     }
     next
@@ -46,7 +47,7 @@ pub fn syndromes(m: usize, b: usize, word: &[u8]) -> [u8; 16]
     let mut values: [u8; 16] = [0; 16];
     let mut i = 0;
     while i < word.len() {
-        let next = take_in(m, values, &points, word[i]);
+        let next = take_in(m, values, points, word[i]);
         values = next;
         i += 1;
     }

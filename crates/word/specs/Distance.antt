@@ -12,6 +12,7 @@ use lib.ListN.{length}
 use lib.Seq.{ext-getD}
 use lib.Pow.{pow-pos}
 use lib.Bits.{bitXor, xor-lt, xor-self}
+use lib.Count.{ones}
 use lib.Dec.{T, ltb, ltb→lt}
 use Rattle.algebra.specs.Sets.{one, count}
 use Rattle.algebra.specs.Tests.{at, total, below, first, second, total-first, below-at}
@@ -25,7 +26,7 @@ use Rattle.field.specs.Powers.{power-below}
 use Rattle.field.specs.Elements.{wide, known, K, pow-power, two-nz, order}
 use Rattle.word.specs.Setting.{Allowed, named}
 use Rattle.steps.specs.Places.{spots, flagged}
-use Rattle.word.specs.Word.{valueFrom, value, errorAt, errorOf-same, errorOf-wrong, errors, marked}
+use Rattle.word.specs.Word.{valueFrom, value, errorAt, errorOf-same, errorOf-wrong, errors, marked, bitsAt, bits}
 use Rattle.word.specs.Codeword.{Codeword, Near}
 use Rattle.word.specs.declared.Setting.{Setting}
 
@@ -82,6 +83,10 @@ total-zero (suc n) f h = omega (arith, total-zero n f (λ i l. h i (omega arith)
 pub errors-self : (marks w : List ℕ) → errors marks w w ≡ 0
 unfolding errors
 errors-self marks w = total-zero (length w) (errorAt marks w w) λ i l. errorOf-same (at marks i) (at w i) (at w i) refl
+
+pub bits-self : (w : List ℕ) → bits w w ≡ 0
+unfolding bits _⊕_ ones
+bits-self w = total-zero (length w) (bitsAt w w) λ i l. rw (xor-self (at w i))
 
 module _ (s : Setting) (ok : Allowed s) where
   pub own-field : wide (s .m) ≡ s .m

@@ -13,7 +13,7 @@ use lib.Seq.{take-length, take-append-seam}
 use Rattle.algebra.specs.Tests.{at, total}
 use Rattle.word.specs.Word.{errors, marked, bits}
 use Rattle.word.specs.Codeword.{qualifies, Codeword, near, is-near}
-use Rattle.word.specs.Distance.{errors-self}
+use Rattle.word.specs.Distance.{errors-self, bits-self}
 use Rattle.word.specs.Code.{corrected}
 use Rattle.word.specs.Code.Laws.{corrected-only, corrected-none}
 use Rattle.word.specs.Answers.{figures}
@@ -36,6 +36,18 @@ pub record Repaired (s : Setting) (marks : List ℕ) (f : ℕ) (sums before afte
   pub is-kernel : KernelVector (s .m) ((s .r - f) / 2) peeled vector
   pub are-candidates : Candidates (s .m) (s .n) marks vector (suc ((s .r - f) / 2)) flags
   pub are-corrected : Corrected (s .m) (s .n) (s .b) flags sums before after rest
+
+-- a codeword was found, with these figures
+pub record Found (e f b : ℕ) (r : Settled) : Type 0 where
+  pub found : r .found ≡ true
+  pub figures : r .figures ≡ record { errors = e; marked = f; bits = b }
+
+-- what is known of a received word once its marks are counted and its syndromes taken
+pub record Measured (s : Setting) (marks received : List ℕ) (f : ℕ) (sums : List ℕ) : Type 0 where
+  pub checked : Checked s marks received
+  pub counted : f ≡ marked marks received
+  pub few : f ≤ s .r
+  pub syndromes : Syndromes (s .m) (s .b) received sums
 
 -- a codeword was found, it is in out, and the figures are its own; or there is none
 pub record Settles (s : Setting) (marks received out : List ℕ) (r : Settled) : Type 0 where
@@ -64,10 +76,9 @@ module _ (s : Setting) (marks received : List ℕ) (ch : Checked s marks receive
 
   module _ (f : ℕ) (ef : f ≡ marked marks received) (few : f ≤ s .r) (S : List ℕ) (syn : Syndromes (s .m) (s .b) received S) where
     -- a received codeword
-    pub found-clean : (r : Settled) → allZero (s .m) (s .r) S ≡ true → r .found ≡ true → r .figures ≡ record { errors = 0; marked = f; bits = bits received received }
-        → Settles s marks received received r
-    found-clean r z e g =
-        settles-found received r (ch .size) e (g ∙ rw (errors-self marks received, ← ef))
+    pub found-clean : (r : Settled) → allZero (s .m) (s .r) S ≡ true → Found 0 f 0 r → Settles s marks received received r
+    found-clean r z g =
+        settles-found received r (ch .size) (g .found) (g .figures ∙ rw (errors-self marks received, bits-self received, ← ef))
         (is-near s marks received received (record { code = clean s marks received ch S syn (allZero-at _ _ S z); bound = omega (arith, errors-self marks received) }))
 
     module _ (out rest : List ℕ) (rep : Repaired s marks f S received out rest) where
@@ -98,10 +109,10 @@ module _ (s : Setting) (marks received : List ℕ) (ch : Checked s marks receive
           let bound : 2 * errors marks received out + marked marks received ≤ s .r = rw (made c q) (near s marks received c q .bound) in
           omega arith
 
-      pub found-mended : (r : Settled) (e : ℕ) → e ≡ errors marks received out → 2 * e + f ≤ s .r → allZero (s .m) (s .r) rest ≡ true → r .found ≡ true
-          → r .figures ≡ record { errors = e; marked = f; bits = bits received out } → Settles s marks received out r
-      found-mended r e ee l z g h =
-          settles-found out r (rep .are-corrected .size) g (h ∙ rw (ee, ef))
+      pub found-mended : (r : Settled) (e : ℕ) → e ≡ errors marks received out → 2 * e + f ≤ s .r → allZero (s .m) (s .r) rest ≡ true
+          → (b : ℕ) → b ≡ bits received out → Found e f b r → Settles s marks received out r
+      found-mended r e ee l z b eb g =
+          settles-found out r (rep .are-corrected .size) (g .found) (g .figures ∙ rw (ee, ef, eb))
           (is-near s marks received out (record {
             code = made-codeword s marks received ch t lo hi S (rep .peeled) (rep .vector) (rep .flags) out rest syn (rep .is-peeled) (rep .is-kernel) (rep .are-candidates) (rep .are-corrected) (allZero-at _ _ rest z);
             bound = omega arith;

@@ -1,11 +1,10 @@
 // The decoder: the codeword with 2e + f ≤ r, found by peeling (docs/ARCHITECTURE.md), or that there is none.
 ghost use mathlib.Core.Path.{_≡_};
 ghost use mathlib.Core.Bool.{false};
-ghost use Prim.Native.Nat.{_≤_};
+ghost use Prim.Native.Nat.{_*_, _≤_};
 ghost use lib.ListN.{length, take};
-ghost use Rattle.word.specs.Word.{bits};
 ghost use Rattle.word.specs.Answers.Laws.{Checked};
-ghost use Rattle.word.specs.Settled.{Repaired, Settles};
+ghost use Rattle.word.specs.Settled.{Repaired, Found, Measured, Settles};
 use crate::Figures;
 use crate::Setting;
 use crate::count::count_bits;
@@ -40,16 +39,18 @@ fn lost() -> Settled
     }
 }
 
-// The figures of a word that was found, with its e wrong symbols and f marks.
-fn figures_of(received: &[u8], word: &[u8], e: usize, f: usize) -> Figures
-    requires { ⌜ (length (now received) ≤ 255) × (length (now word) ≡ length (now received)) × (e ≤ 255) × (f ≤ 255) ⌝ }
-    ensures { λ r. ⌜ r ≡ record { errors = e; marked = f; bits = bits (now (received .entry)) (now (word .entry)) } ⌝ }
+// The answer for a word that was found: its e wrong symbols, f marks and changed bits.
+fn found(e: usize, f: usize, bits: usize) -> Settled
+    requires { ⌜ (e ≤ 255) × (f ≤ 255) × (bits ≤ 8 * 255) ⌝ }
+    ensures { λ r. ⌜ Found e f bits r ⌝ }
 {
-    let count = count_bits(received, word);
-    Figures {
-        errors: e as u16,
-        marked: f as u16,
-        bits: count as u16,
+    Settled {
+        found: true,
+        figures: Figures {
+            errors: e as u16,
+            marked: f as u16,
+            bits: bits as u16,
+        },
     }
 }
 
@@ -62,10 +63,33 @@ fn repair(s: Setting, marks: &[u8], f: usize, sums: [u8; 16], word: &mut [u8]) -
     let n = s.n;
     let t = (s.r - f) / 2;
     let locators = locators(m, n);
-    let peeled = peel_all(m, n, &locators, marks, n, sums);
+    let peeled = peel_all(m, n, &locators, marks, sums);
     let v = kernel(m, t, peeled);
     let flags = candidates(m, n, marks, &v, t + 1, &locators);
     correct(m, n, s.b, &locators, &flags, sums, word)
+}
+
+// Corrects the received word in `out`, which is no codeword, to the one with 2e + f ≤ r, where there is one.
+fn mend(
+    s: Setting,
+    received: &[u8],
+    marks: &[u8],
+    f: usize,
+    sums: [u8; 16],
+    out: &mut [u8],
+) -> Settled
+    requires { ⌜ Measured s (now marks) (now received) f sums × (now out ≡ now received) ⌝ }
+    ensures { λ r. ⌜ Settles s (now (marks .entry)) (now (received .entry)) (now (out .exit)) r ⌝ }
+{
+    let rest = repair(s, marks, f, sums, out);
+    if !all_zero(s.m, rest, s.r) {
+        return lost();
+    }
+    let e = count_errors(marks, received, out);
+    if s.r < 2 * e + f {
+        return lost();
+    }
+    found(e, f, count_bits(received, out))
 }
 
 // Puts the codeword with 2e + f ≤ r into `out`, where there is one. A received codeword is answered after its syndromes alone.
@@ -80,25 +104,9 @@ fn solve(s: Setting, received: &[u8], marks: &[u8], out: &mut [u8]) -> Settled
     copy(received, out);
     let sums = syndromes(s.m, s.b, received);
     if all_zero(s.m, sums, s.r) {
-        let clean = figures_of(received, out, 0, f);
-        return Settled {
-            found: true,
-            figures: clean,
-        };
+        return found(0, f, 0);
     }
-    let rest = repair(s, marks, f, sums, out);
-    if !all_zero(s.m, rest, s.r) {
-        return lost();
-    }
-    let e = count_errors(marks, received, out);
-    if s.r < 2 * e + f {
-        return lost();
-    }
-    let mended = figures_of(received, out, e, f);
-    Settled {
-        found: true,
-        figures: mended,
-    }
+    mend(s, received, marks, f, sums, out)
 }
 
 // The same with room for the longest word.

@@ -10,10 +10,13 @@ use Rattle.steps.proofs.correct.correct.Statement.{statement}
 use Rattle.steps.proofs.correct.correct.Tie as tie
 
 abbrev Inv-loop : tie.InvT-loop
-Inv-loop m n b locators flags sums word₀ rest₀ i₀ word rest i = Correcting m n b flags sums word₀ i word rest
+Inv-loop m n b locators flags sums word₀ places count rest₀ i₀ word rest i = Correcting m n b flags sums word₀ i word rest
 
 abbrev μ-loop : tie.MeasureT-loop
-μ-loop m n b locators flags sums word₀ rest₀ i₀ word rest i = n - i
+μ-loop m n b locators flags sums word₀ places count rest₀ i₀ word rest i = n - i
+
+list-requires : tie.Need-list-requires Inv-loop μ-loop
+list-requires c κs = search needs
 
 loop-holds : tie.Need-loop-holds Inv-loop μ-loop
 loop-holds c = correcting-start (search needs)
@@ -25,7 +28,9 @@ element-copy-out-x : tie.Need-element-copy-out-x Inv-loop μ-loop
 element-copy-out-x c = omega arith
 
 error-value-requires : tie.Need-error-value-requires Inv-loop μ-loop
-error-value-requires c κs = search needs
+error-value-requires c κs =
+    let l = c .before .before .before .before .before .before .list .ensures in
+    ((omega arith, l .0, omega arith, omega arith, l .1 .inside), c .before .before .before .before .before .before .before .before .before .before .pre .1)
 
 slice-read-word : tie.Need-slice-read-word Inv-loop μ-loop
 slice-read-word c = omega arith
@@ -51,8 +56,9 @@ loop-less c = omega arith
 loop-again : tie.Need-loop-again Inv-loop μ-loop
 loop-again c =
     let o = c .before .before .before .loop in
-    let a = c .before .before .before .before .before .before in
-    ⊎-elim (λ w. rw (w .7, w .8) (correcting-take (omega arith) (o .inv) (omega arith) (a .pre .1 .entry _ (omega arith)) (w .2 .ensures) (w .4 .ensures) (w .5 .ensures) (w .6 .ensures)))
+    let a = c .before .before .before .before .before .before .before .before in
+    let listed = c .before .before .before .before .list .ensures .1 in
+    ⊎-elim (λ w. rw (w .8, w .9) (correcting-take (omega arith) (o .inv) (omega arith) (a .pre .1 .entry _ (omega arith)) (w .3 .ensures _ listed) (w .5 .ensures) (w .6 .ensures) (w .7 .ensures)))
     (λ w. rw (w .1, w .2) (correcting-pass (omega arith) (o .inv) (omega arith))) (c .if1 .came)
 
 same-length : tie.Need-same-length Inv-loop μ-loop
@@ -67,6 +73,7 @@ correct-spec =
     (tie.spec
     Inv-loop
     μ-loop
+    list-requires
     loop-holds
     shared-slice-read-if1
     element-copy-out-x

@@ -1,4 +1,5 @@
--- `steps::correct::error_value` meets its contract: it is the quotient of what `peel_all` leaves by the `distance`, with the inverse of the latter.
+-- `steps::correct::error_value` meets its contract: it is the quotient of what `peel_listed` leaves by the `distance`, with the inverse of the
+-- latter.
 -- Assumes nothing.
 use native.Mathlib.Omega.{arith}
 use borrow.Author.Needs.{needs}
@@ -7,8 +8,10 @@ use Rattle.steps.specs.Corrections.{error-at}
 use Rattle.steps.proofs.correct.error_value.Statement.{statement}
 use Rattle.steps.proofs.correct.error_value.Tie as tie
 
-peel-all-requires : tie.Need-peel-all-requires
-peel-all-requires c κs = search needs
+peel-listed-requires : tie.Need-peel-listed-requires
+peel-listed-requires c κs =
+    let a = c .pre in
+    ((omega arith, omega arith, a .0 .4), a .1)
 
 element-copy-out-weight : tie.Need-element-copy-out-weight
 element-copy-out-weight c = search needs
@@ -17,7 +20,9 @@ weight-requires : tie.Need-weight-requires
 weight-requires c κs = search needs
 
 distance-requires : tie.Need-distance-requires
-distance-requires c κs = search needs
+distance-requires c κs =
+    let a = c .before .before .before .pre in
+    ((omega arith, omega arith, omega arith, a .0 .4), a .1)
 
 array-read-times : tie.Need-array-read-times
 array-read-times c = search needs
@@ -29,16 +34,16 @@ times-requires : tie.Need-times-requires
 times-requires c κs = search needs
 
 returns : tie.Need-returns
-returns c =
-    let a = c .before .before .before .before .before .before .before in
-    error-at (getD (a .args .locators .now) (a .args .p) 0) _ _ _ _ (c .before .before .before .weight .ensures) (a .pre .1 .entry _ (omega arith)) (c .before .before .distance .ensures)
-    (λ few. c .before .before .before .before .before .peel-all .ensures 0 (omega arith)) (c .before .inverse-at .ensures .1) (c .times .ensures)
+returns c = λ flags h.
+    let a = c .before .before .before .before .before .before in
+    error-at (getD (a .args .locators .now) (a .args .p) 0) _ _ _ _ (c .before .before .before .weight .ensures) (a .pre .1 .entry _ (omega arith)) (c .before .before .distance .ensures flags h)
+    (λ few. c .before .before .before .before .before .peel-listed .ensures flags h 0 (omega arith)) (c .before .inverse-at .ensures .1) (c .times .ensures)
 
 pub error-value-spec : {M : Type 1} → statement M
 error-value-spec =
     tie.close
     (tie.spec
-    peel-all-requires
+    peel-listed-requires
     element-copy-out-weight
     weight-requires
     distance-requires

@@ -1,7 +1,8 @@
--- `kernel::combine` meets its contract: each number of the row is made of two that no earlier turn has written. The invariant: the first l numbers
--- of the row are made, and all else is as it was. The measure is how many are left.
+-- `kernel::combine` meets its contract: each number of the row is the sum of a product of each row, which were made before any was written. The
+-- invariant: the first l numbers of the row are made, and all else is as it was. The measure is how many are left.
 -- Assumes nothing.
 use native.Mathlib.Omega.{arith}
+use borrow.Author.Needs.{needs}
 use Prim.Native.Nat.{_-_, _≤_}
 use mathlib.Core.Path.{_≡_}
 use Rattle.steps.specs.Rows.{Combined, combined-none, combined-more}
@@ -9,31 +10,31 @@ use Rattle.steps.proofs.kernel.combine.Statement.{statement}
 use Rattle.steps.proofs.kernel.combine.Tie as tie
 
 abbrev Inv-loop : tie.InvT-loop
-Inv-loop m v₀ b c d x y l₀ v l = (l ≤ d) × Combined m b c l x y v₀ v
+Inv-loop m v₀ b c d x y own other l₀ v l = (l ≤ d) × Combined m b c l x y v₀ v
 
 abbrev μ-loop : tie.MeasureT-loop
-μ-loop m v₀ b c d x y l₀ v l = d - l
+μ-loop m v₀ b c d x y own other l₀ v l = d - l
+
+lanes-requires : tie.Need-lanes-requires Inv-loop μ-loop
+lanes-requires c κs = search needs
+
+products-requires : tie.Need-products-requires Inv-loop μ-loop
+products-requires c κs = search needs
+
+lanes-requires-2 : tie.Need-lanes-requires-2 Inv-loop μ-loop
+lanes-requires-2 c κs = search needs
+
+products-requires-2 : tie.Need-products-requires-2 Inv-loop μ-loop
+products-requires-2 c κs = search needs
 
 loop-holds : tie.Need-loop-holds Inv-loop μ-loop
 loop-holds c = (omega arith, combined-none)
 
-add-times : tie.Need-add-times Inv-loop μ-loop
-add-times c = omega arith
+array-read-v : tie.Need-array-read-v Inv-loop μ-loop
+array-read-v c = omega arith
 
-element-copy-out-times : tie.Need-element-copy-out-times Inv-loop μ-loop
-element-copy-out-times c = omega arith
-
-times-requires : tie.Need-times-requires Inv-loop μ-loop
-times-requires c κs = tt
-
-add-times-2 : tie.Need-add-times-2 Inv-loop μ-loop
-add-times-2 c = omega arith
-
-element-copy-out-times-2 : tie.Need-element-copy-out-times-2 Inv-loop μ-loop
-element-copy-out-times-2 c = omega arith
-
-times-requires-2 : tie.Need-times-requires-2 Inv-loop μ-loop
-times-requires-2 c κs = tt
+array-read-v-2 : tie.Need-array-read-v-2 Inv-loop μ-loop
+array-read-v-2 c = omega arith
 
 add-v : tie.Need-add-v Inv-loop μ-loop
 add-v c = omega arith
@@ -49,12 +50,15 @@ loop-less c = omega arith
 
 loop-again : tie.Need-loop-again Inv-loop μ-loop
 loop-again c =
-    let o = c .before .before .before .before .before .loop in
-    (omega arith, combined-more _ _ (o .inv .1) (omega arith) (omega (arith, o .inv .1 .size)) (c .before .before .times .ensures) (c .times2 .ensures))
+    let o = c .before .loop in
+    let two = c .before .before in
+    let one = two .before .before .before .before in
+    (omega arith, combined-more (o .inv .1) (omega arith) (omega arith) (one .before .lanes .ensures) (two .before .lanes2 .ensures) (one .products .ensures) (two .products2 .ensures))
 
 returns : tie.Need-returns Inv-loop μ-loop
 returns c =
-    let e : c .before .loop .l ≡ c .before .before .args .d = omega arith in
+    let start = c .before .before .before .before .before .before .before .before .before .before in
+    let e : c .before .loop .l ≡ start .args .d = omega arith in
     rw e at (c .before .loop .inv .1)
 
 pub combine-spec : {M : Type 1} → statement M
@@ -63,13 +67,13 @@ combine-spec =
     (tie.spec
     Inv-loop
     μ-loop
+    lanes-requires
+    products-requires
+    lanes-requires-2
+    products-requires-2
     loop-holds
-    add-times
-    element-copy-out-times
-    times-requires
-    add-times-2
-    element-copy-out-times-2
-    times-requires-2
+    array-read-v
+    array-read-v-2
     add-v
     element-write-v
     add-l

@@ -2,34 +2,32 @@
 -- the whole. The measure is how many are left.
 -- Assumes nothing.
 use native.Mathlib.Omega.{arith}
+use borrow.Author.Needs.{needs}
 use Prim.Native.Nat.{_-_}
 use Rattle.steps.specs.Rows.{Dotted, dotted-none, dotted-more, dotted-all}
 use Rattle.steps.proofs.kernel.dot.Statement.{statement}
 use Rattle.steps.proofs.kernel.dot.Tie as tie
 
 abbrev Inv-loop : tie.InvT-loop
-Inv-loop m v b d sums j sum₀ l₀ sum l = Dotted m d v b sums j l sum
+Inv-loop m v b d sums j products sum₀ l₀ sum l = Dotted m d v b sums j l sum
 
 abbrev μ-loop : tie.MeasureT-loop
-μ-loop m v b d sums j sum₀ l₀ sum l = d - l
+μ-loop m v b d sums j products sum₀ l₀ sum l = d - l
+
+lanes-requires : tie.Need-lanes-requires Inv-loop μ-loop
+lanes-requires c κs = search needs
+
+lanes-requires-2 : tie.Need-lanes-requires-2 Inv-loop μ-loop
+lanes-requires-2 c κs = search needs
+
+products-requires : tie.Need-products-requires Inv-loop μ-loop
+products-requires c κs = search needs
 
 loop-holds : tie.Need-loop-holds Inv-loop μ-loop
 loop-holds c = dotted-none
 
-add-times : tie.Need-add-times Inv-loop μ-loop
-add-times c = omega arith
-
-element-copy-out-times : tie.Need-element-copy-out-times Inv-loop μ-loop
-element-copy-out-times c = omega arith
-
-add-times-2 : tie.Need-add-times-2 Inv-loop μ-loop
-add-times-2 c = omega arith
-
-element-copy-out-times-2 : tie.Need-element-copy-out-times-2 Inv-loop μ-loop
-element-copy-out-times-2 c = omega arith
-
-times-requires : tie.Need-times-requires Inv-loop μ-loop
-times-requires c κs = tt
+array-read-sum : tie.Need-array-read-sum Inv-loop μ-loop
+array-read-sum c = omega arith
 
 add-l : tie.Need-add-l Inv-loop μ-loop
 add-l c = omega arith
@@ -38,7 +36,9 @@ loop-less : tie.Need-loop-less Inv-loop μ-loop
 loop-less c = omega arith
 
 loop-again : tie.Need-loop-again Inv-loop μ-loop
-loop-again c = dotted-more _ (c .before .before .before .before .loop .inv) (omega arith) (c .times .ensures)
+loop-again c =
+    let s = c .before .before in
+    dotted-more (c .before .loop .inv) (omega arith) (omega arith) (s .before .before .before .lanes .ensures) (s .before .lanes2 .ensures) (s .products .ensures)
 
 returns : tie.Need-returns Inv-loop μ-loop
 returns c = dotted-all (c .before .loop .inv) (omega arith)
@@ -49,12 +49,11 @@ dot-spec =
     (tie.spec
     Inv-loop
     μ-loop
+    lanes-requires
+    lanes-requires-2
+    products-requires
     loop-holds
-    add-times
-    element-copy-out-times
-    add-times-2
-    element-copy-out-times-2
-    times-requires
+    array-read-sum
     add-l
     loop-less
     loop-again

@@ -2,21 +2,26 @@
 -- invariant: each vector alive is orthogonal to the first j windows, and at most j have died. The measure is how many windows are left.
 -- Assumes nothing.
 use native.Mathlib.Omega.{arith}
+use borrow.Author.Needs.{needs}
 use Prim.Native.Nat.{_+_, _-_, _≤_}
-use mathlib.Core.Path.{refl}
+use mathlib.Core.Path.{_≡_, refl}
+use lib.ListN.{length}
 use Rattle.algebra.specs.Tests.{each}
 use Rattle.steps.specs.Elimination.{Eliminated, eliminated-none, kernel-vector}
 use Rattle.steps.proofs.kernel.kernel.Statement.{statement}
 use Rattle.steps.proofs.kernel.kernel.Tie as tie
 
 abbrev Inv-loop : tie.InvT-loop
-Inv-loop m t sums v₀ alive₀ j₀ v alive j = (j ≤ t) × Eliminated m (t + 1) sums j v alive
+Inv-loop m t long v₀ alive₀ j₀ v alive j = (j ≤ t) × Eliminated m (t + 1) long j v alive
 
 abbrev μ-loop : tie.MeasureT-loop
-μ-loop m t sums v₀ alive₀ j₀ v alive j = t - j
+μ-loop m t long v₀ alive₀ j₀ v alive j = t - j
+
+lengthened-requires : tie.Need-lengthened-requires Inv-loop μ-loop
+lengthened-requires c κs = search needs
 
 units-requires : tie.Need-units-requires Inv-loop μ-loop
-units-requires c κs = tt
+units-requires c κs = search needs
 
 loop-holds : tie.Need-loop-holds Inv-loop μ-loop
 unfolding each
@@ -43,17 +48,20 @@ add-first c = omega arith
 first-requires : tie.Need-first-requires Inv-loop μ-loop
 first-requires c κs = (omega arith, omega (arith, c .before .before .loop .inv .1 .many))
 
-mul-copy : tie.Need-mul-copy Inv-loop μ-loop
-mul-copy c = omega arith
+slice-aggregate-lanes : tie.Need-slice-aggregate-lanes Inv-loop μ-loop
+slice-aggregate-lanes c = omega arith
 
-copy-requires : tie.Need-copy-requires Inv-loop μ-loop
-copy-requires c κs = omega arith
+mul-lanes : tie.Need-mul-lanes Inv-loop μ-loop
+mul-lanes c = omega arith
+
+lanes-requires : tie.Need-lanes-requires Inv-loop μ-loop
+lanes-requires c κs = search needs
 
 returns : tie.Need-returns Inv-loop μ-loop
 returns c =
     let o = c .before .before .before .before .before .loop in
     let f = c .before .before .first .ensures in
-    kernel-vector _ (omega arith) (omega arith) (o .inv .1) (f .0) (f .1) (c .copy .ensures)
+    kernel-vector _ (omega arith) (omega arith) (c .before .before .before .before .before .before .before .lengthened .ensures) (o .inv .1) (f .0) (f .1) (c .lanes .ensures)
 
 pub kernel-spec : {M : Type 1} → statement M
 kernel-spec =
@@ -61,6 +69,7 @@ kernel-spec =
     (tie.spec
     Inv-loop
     μ-loop
+    lengthened-requires
     units-requires
     loop-holds
     add-eliminate
@@ -70,6 +79,7 @@ kernel-spec =
     loop-again
     add-first
     first-requires
-    mul-copy
-    copy-requires
+    slice-aggregate-lanes
+    mul-lanes
+    lanes-requires
     returns)

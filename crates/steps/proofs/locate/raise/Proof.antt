@@ -1,16 +1,19 @@
--- `steps::locate::raise` meets its contract. The loop's invariant: the points before `i` have had their turn.
+-- `steps::locate::raise` meets its contract. The loop's invariant: the points before `i` have had their turn. Either branch gives the product
+-- of the field that m names, since a product depends on m by its width alone.
 -- Assumes nothing.
 use mathlib.Core.Path.{_≡_, refl}
+use mathlib.Core.Logic.{⊎-elim}
 use Prim.Native.Nat.{_-_, _≤_}
 use native.Mathlib.Omega.{arith}
 use borrow.Author.Needs.{needs}
-use Rattle.algebra.specs.Lists.{Filled, filled-none, filled-more}
-use Rattle.steps.specs.Syndromes.{laneAfter}
+use Rattle.algebra.specs.Lists.{Filled, filled-none}
+use Rattle.field.specs.Elements.{wide, wide-3, wide-8}
+use Rattle.steps.specs.Candidates.{raisedAt, raised-more}
 use Rattle.steps.proofs.locate.raise.Statement.{statement}
 use Rattle.steps.proofs.locate.raise.Tie as tie
 
 abbrev Inv-loop : tie.InvT-loop
-Inv-loop m n points symbol values next₀ i₀ next i = (i ≤ n) × Filled 255 (laneAfter m symbol values points) i next
+Inv-loop m n points symbol values next₀ i₀ next i = (i ≤ n) × Filled 255 (raisedAt m symbol values points) i next
 
 abbrev μ-loop : tie.MeasureT-loop
 μ-loop m n points symbol values next₀ i₀ next i = n - i
@@ -30,6 +33,18 @@ times-requires c κs = search needs
 array-write-next : tie.Need-array-write-next Inv-loop μ-loop
 array-write-next c = omega arith
 
+array-read-times-2 : tie.Need-array-read-times-2 Inv-loop μ-loop
+array-read-times-2 c = omega arith
+
+element-copy-out-times-2 : tie.Need-element-copy-out-times-2 Inv-loop μ-loop
+element-copy-out-times-2 c = omega arith
+
+times-requires-2 : tie.Need-times-requires-2 Inv-loop μ-loop
+times-requires-2 c κs = search needs
+
+array-write-next-2 : tie.Need-array-write-next-2 Inv-loop μ-loop
+array-write-next-2 c = omega arith
+
 add-i : tie.Need-add-i Inv-loop μ-loop
 add-i c = omega arith
 
@@ -37,9 +52,12 @@ loop-less : tie.Need-loop-less Inv-loop μ-loop
 loop-less c = omega arith
 
 loop-again : tie.Need-loop-again Inv-loop μ-loop
+unfolding wide
 loop-again c =
-    let o = c .before .before .before .loop in
-    (omega arith, filled-more _ _ _ _ _ (omega arith) (rw (c .times .ensures)) (o .inv .1))
+    let f = c .before .before .loop .inv .1 in
+    let m = c .before .before .before .args .m in
+    ⊎-elim (λ w. (omega arith, rw (w .3) (raised-more m 3 _ _ _ _ _ _ (wide-3 m (w .0 .taken)) (omega arith) (w .2 .ensures) f)))
+    (λ w. (omega arith, rw (w .3) (raised-more m 8 _ _ _ _ _ _ (wide-8 m (w .0 .left)) (omega arith) (w .2 .ensures) f))) (c .if1 .came)
 
 returns : tie.Need-returns Inv-loop μ-loop
 returns c =
@@ -57,6 +75,10 @@ raise-spec =
     element-copy-out-times
     times-requires
     array-write-next
+    array-read-times-2
+    element-copy-out-times-2
+    times-requires-2
+    array-write-next-2
     add-i
     loop-less
     loop-again

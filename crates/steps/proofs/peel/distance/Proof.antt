@@ -1,38 +1,44 @@
 -- `steps::peel::distance` meets its contract. The loop's invariant (`Nearing`): what is multiplied, times the differences that are left, is
 -- the distance. The measure is the number of places left.
 -- Assumes nothing.
-use Prim.Native.Nat.{_-_}
+use mathlib.Core.Path.{_≡_}
 use mathlib.Core.Logic.{⊎-elim}
+use mathlib.Core.List.{List}
+use Prim.Native.Nat.{ℕ, _-_, _≤_}
 use native.Mathlib.Omega.{arith}
 use borrow.Author.Needs.{needs}
-use borrow.Author.Tests.{eqb-true, eqb-false, not-true, not-false}
-use Rattle.steps.specs.Peeling.{Nearing, nearing-start, nearing-take, nearing-pass, nearing-end}
+use Rattle.steps.specs.Peeling.{Nearing, nearing-start}
+use Rattle.steps.specs.Listing.{Listed, from, far-take, far-skip, far-end}
 use Rattle.steps.proofs.peel.distance.Statement.{statement}
 use Rattle.steps.proofs.peel.distance.Tie as tie
 
 abbrev Inv-loop : tie.InvT-loop
-Inv-loop m n locators flags p start far₀ i₀ far i = Nearing m n flags p start i far
+Inv-loop m n locators places count p start far₀ s₀ far s = (s ≤ count) × ((flags : List ℕ) → Listed n flags count places → Nearing m n flags p start (from places s) far)
 
 abbrev μ-loop : tie.MeasureT-loop
-μ-loop m n locators flags p start far₀ i₀ far i = n - i
+μ-loop m n locators places count p start far₀ s₀ far s = count - s
 
 loop-holds : tie.Need-loop-holds Inv-loop μ-loop
-loop-holds c = nearing-start
+unfolding from
+loop-holds c = (omega arith, λ flags h. nearing-start)
 
-shared-slice-read-if1 : tie.Need-shared-slice-read-if1 Inv-loop μ-loop
-shared-slice-read-if1 c = omega arith
+element-copy-out-i : tie.Need-element-copy-out-i Inv-loop μ-loop
+element-copy-out-i c = omega arith
+
+cast-i : tie.Need-cast-i Inv-loop μ-loop
+cast-i c = omega (arith, c .before .before .before .pre .0 .3 (c .before .before .loop .s) (omega arith))
 
 element-copy-out-times : tie.Need-element-copy-out-times Inv-loop μ-loop
 element-copy-out-times c = omega arith
 
 element-copy-out-times-2 : tie.Need-element-copy-out-times-2 Inv-loop μ-loop
-element-copy-out-times-2 c = omega arith
+element-copy-out-times-2 c = omega (arith, c .before .before .before .before .before .pre .0 .3 (c .before .before .before .before .loop .s) (omega arith))
 
 times-requires : tie.Need-times-requires Inv-loop μ-loop
 times-requires c κs = search needs
 
-add-i : tie.Need-add-i Inv-loop μ-loop
-add-i c = omega arith
+add-s : tie.Need-add-s Inv-loop μ-loop
+add-s c = omega arith
 
 loop-less : tie.Need-loop-less Inv-loop μ-loop
 loop-less c = omega arith
@@ -40,13 +46,13 @@ loop-less c = omega arith
 loop-again : tie.Need-loop-again Inv-loop μ-loop
 loop-again c =
     let o = c .before .before .before .loop in
-    let a = c .before .before .before .before .before in
-    ⊎-elim (λ w. rw (w .5) (nearing-take (omega arith) (o .inv) (omega arith) (eqb-false _ _ (not-true _ (w .1 .taken))) (a .pre .1 .entry _ (omega arith)) (a .pre .1 .entry _ (omega arith)) (w .4 .ensures)))
-    (λ w. rw (w .1) (nearing-pass (omega arith) (o .inv) λ h. ⊎-elim (λ u. h .1 (eqb-true _ _ (not-false _ (u .1 .left)))) (λ u. omega arith) (w .0 .came)))
-    (c .if1 .came)
+    let a = c .before .before .before .before in
+    let inside = a .pre .0 .3 (o .s) (omega arith) in
+    ⊎-elim (λ w. (omega arith, λ flags h. rw (w .4) (far-take h (omega arith) (o .inv .1 flags h) (w .0 .taken) (a .pre .1 .entry _ (omega arith)) (a .pre .1 .entry _ inside) (w .3 .ensures))))
+    (λ w. (omega arith, λ flags h. rw (w .1) (far-skip h (omega arith) (o .inv .1 flags h) (w .0 .left)))) (c .if1 .came)
 
 returns : tie.Need-returns Inv-loop μ-loop
-returns c = nearing-end (omega arith) (c .before .loop .inv)
+returns c = λ flags h. far-end h (omega arith) (c .before .loop .inv .1 flags h)
 
 pub distance-spec : {M : Type 1} → statement M
 distance-spec =
@@ -55,11 +61,12 @@ distance-spec =
     Inv-loop
     μ-loop
     loop-holds
-    shared-slice-read-if1
+    element-copy-out-i
+    cast-i
     element-copy-out-times
     element-copy-out-times-2
     times-requires
-    add-i
+    add-s
     loop-less
     loop-again
     returns)

@@ -16,11 +16,11 @@ Inv-loop m symbol register next₀ i₀ next i = (i ≤ 15) × Moving register n
 abbrev μ-loop : tie.MeasureT-loop
 μ-loop m symbol register next₀ i₀ next i = 15 - i
 
-array-read-scaled : tie.Need-array-read-scaled Inv-loop μ-loop
-array-read-scaled c = omega arith
+array-read-products : tie.Need-array-read-products Inv-loop μ-loop
+array-read-products c = omega arith
 
-scaled-requires : tie.Need-scaled-requires Inv-loop μ-loop
-scaled-requires c κs = search needs
+products-requires : tie.Need-products-requires Inv-loop μ-loop
+products-requires c κs = search needs
 
 loop-holds : tie.Need-loop-holds Inv-loop μ-loop
 loop-holds c = (omega arith, moving-none _ _)
@@ -49,7 +49,7 @@ loop-again c =
     (omega arith, moving-more _ _ _ _ (omega arith) (c .before .loop .inv .1))
 
 returns : tie.Need-returns Inv-loop μ-loop
-returns c = moving-all _ _ _ _ _ _ _ (search needs) (search needs) (omega arith) (c .before .before .scaled .ensures) (c .before .loop .inv .1)
+returns c = moving-all _ _ _ _ _ _ _ (search needs) (search needs) (omega arith) (c .before .before .products .ensures) (c .before .loop .inv .1)
 
 pub feed-spec : {M : Type 1} → statement M
 feed-spec =
@@ -57,8 +57,8 @@ feed-spec =
     (tie.spec
     Inv-loop
     μ-loop
-    array-read-scaled
-    scaled-requires
+    array-read-products
+    products-requires
     loop-holds
     add-next
     array-read-next

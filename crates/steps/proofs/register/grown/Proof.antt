@@ -15,8 +15,8 @@ Inv-loop m p polynomial products product₀ i₀ product i = (0 < i) × (i ≤ 1
 abbrev μ-loop : tie.MeasureT-loop
 μ-loop m p polynomial products product₀ i₀ product i = 16 - i
 
-scaled-requires : tie.Need-scaled-requires Inv-loop μ-loop
-scaled-requires c κs = search needs
+products-requires : tie.Need-products-requires Inv-loop μ-loop
+products-requires c κs = search needs
 
 array-read-product : tie.Need-array-read-product Inv-loop μ-loop
 array-read-product c = omega arith
@@ -49,7 +49,7 @@ loop-less : tie.Need-loop-less Inv-loop μ-loop
 loop-less c = omega arith
 
 loop-again : tie.Need-loop-again Inv-loop μ-loop
-loop-again c = (omega arith, omega arith, swept-more _ _ _ _ _ _ (omega arith) (omega arith) (c .before .before .before .scaled .ensures) (c .before .loop .inv .2))
+loop-again c = (omega arith, omega arith, swept-more _ _ _ _ _ _ (omega arith) (omega arith) (c .before .before .before .products .ensures) (c .before .loop .inv .2))
 
 returns : tie.Need-returns Inv-loop μ-loop
 returns c = swept-all _ _ _ _ _ (search needs) (omega arith) (c .before .loop .inv .2)
@@ -60,7 +60,7 @@ grown-spec =
     (tie.spec
     Inv-loop
     μ-loop
-    scaled-requires
+    products-requires
     array-read-product
     times-requires
     array-write-product

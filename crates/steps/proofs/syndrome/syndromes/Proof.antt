@@ -34,8 +34,8 @@ loop-less c = omega arith
 
 loop-again : tie.Need-loop-again Inv-loop μ-loop
 loop-again c =
-    let o = c .before .before .before .before .loop in
-    (omega arith, partial-more _ _ _ _ _ _ _ (omega arith) (c .before .before .before .before .before .points .ensures) (c .take-in .ensures) (o .inv .1))
+    let o = c .before .before .before .loop in
+    (omega arith, partial-more _ _ _ _ _ _ _ (omega arith) (c .before .before .before .before .points .ensures) (c .take-in .ensures) (o .inv .1))
 
 returns : tie.Need-returns Inv-loop μ-loop
 returns c = partial-all _ _ _ (c .before .loop .i) _ (omega arith) (c .before .loop .inv .1)
