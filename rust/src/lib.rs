@@ -18,6 +18,14 @@
 //! marked ones is at most r.
 #![no_std]
 #![deny(unsafe_code, missing_docs)]
+// That no call panics is clippy's to check: nothing here could.
+#![deny(
+    clippy::panic,
+    clippy::unwrap_used,
+    clippy::expect_used,
+    clippy::indexing_slicing,
+    clippy::arithmetic_side_effects
+)]
 
 mod answer;
 pub mod block;

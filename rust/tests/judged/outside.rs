@@ -57,9 +57,10 @@ fn hello_world() {
     assert_eq!(word[16..], [196, 35, 39, 119, 235, 215, 231, 226, 93, 23]);
 }
 
-/// Sklar's code: the message and its codeword, and the example's two wrong symbols.
+/// Sklar's code: its check polynomial (equation 8.22), the message and its codeword, and the example's two wrong symbols.
 #[test]
 fn sklar() {
+    assert_eq!(encoded::<1, 5>(4, 1, 3, [1]), [1, 3, 1, 2, 3]);
     let word: [u8; 7] = encoded(4, 1, 3, [7, 3, 2]);
     assert_eq!(word, [7, 3, 2, 5, 6, 4, 1]);
     let s = Setting { m: 3, n: 7, r: 4, b: 1 };

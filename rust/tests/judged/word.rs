@@ -111,7 +111,7 @@ fn decode_around_the_bound() {
 fn decode_what_was_never_sent() {
     let mut noise = Noise::new(12);
     let mut taken = 0;
-    for round in 0..60_000 {
+    for round in 0..120_000 {
         let m = if round % 8 == 0 { 3 } else { 8 };
         let r = 2 + round % if m == 3 { 5 } else { 6 };
         let n = noise.between(r + 1, field(m) - 1);
@@ -132,10 +132,10 @@ fn decode_what_was_never_sent() {
         taken += decoded(s, &word, &marks).0.is_ok() as usize;
     }
     assert!(
-        taken > 5000,
+        taken > 10_000,
         "only {taken} words were taken: the test does not try what it says"
     );
-    println!("60000 words, {taken} of them taken");
+    println!("120000 words, {taken} of them taken");
 }
 
 /// One or two errors beyond the bound from a codeword, where a decoder that forgets the bound goes wrong.
