@@ -1,70 +1,19 @@
-// The delay line for C. A line's setting is the caller's and does not change, so only the position goes back.
-ghost use mathlib.Core.Path.{_≡_};
+// The delay line for C.
 ghost use Rattle.line.specs.Promises.{FreshSender, FreshReceiver, SendStep, SendRun, ReceiveStep, ReceiveRun};
-ghost use Rattle.radio.specs.Shown.{Shows};
-ghost use Rattle.radio.specs.DelayLine.{lineOf, readySeen, sentSeen, receivedSeen};
-use interleave::Line;
-use interleave::Ready;
+ghost use Rattle.face.specs.Shown.{Shows};
+ghost use Rattle.face.specs.DelayLine.{lineOf, readySeen, sentSeen, receivedSeen};
+use face::delay_line::LineReady;
+use face::delay_line::LineReceived;
+use face::delay_line::LineSent;
+use face::delay_line::LineSetting;
+use face::delay_line::line_of;
+use face::delay_line::line_ready;
 use interleave::fresh_receiver;
 use interleave::fresh_sender;
 use interleave::receive_run;
 use interleave::receive_step;
 use interleave::send_run;
 use interleave::send_step;
-
-// A delay line as C sets it.
-#[repr(C)]
-pub struct LineSetting {
-    pub branches: u32,
-    pub unit: u32,
-    pub n: u32,
-}
-
-// The number a call answers, and the position for the next call.
-#[repr(C)]
-pub struct LineReady {
-    pub answer: u8,
-    pub position: usize,
-}
-
-// The same with the byte that leaves the sender.
-#[repr(C)]
-pub struct LineSent {
-    pub answer: u8,
-    pub byte: u8,
-    pub position: usize,
-}
-
-// The same with the byte that leaves the receiver, and its mark.
-#[repr(C)]
-pub struct LineReceived {
-    pub answer: u8,
-    pub byte: u8,
-    pub mark: u8,
-    pub position: usize,
-}
-
-// The line below, at a position.
-fn line_of(line: LineSetting, position: usize) -> Line
-    ensures { λ r. ⌜ r ≡ lineOf line position ⌝ }
-{
-    Line {
-        branches: line.branches as usize,
-        unit: line.unit as usize,
-        n: line.n as usize,
-        position,
-    }
-}
-
-// An answer as C sees it.
-fn line_ready(t: Ready) -> LineReady
-    ensures { λ r. ⌜ r ≡ readySeen t ⌝ }
-{
-    LineReady {
-        answer: t.answer,
-        position: t.line.position,
-    }
-}
 
 // A sender that has sent nothing. Answers 0, 1 or 2; refused, the memory stays as it was.
 #[no_mangle]

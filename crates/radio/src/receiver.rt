@@ -2,89 +2,21 @@
 ghost use mathlib.Core.Path.{_≡_};
 ghost use Rattle.record.specs.Record.{standing, noted};
 ghost use Rattle.link.specs.Receiver.{hearOutcome, heard};
-ghost use Rattle.radio.specs.Shown.{Shows};
-ghost use Rattle.radio.specs.Frames.{framingOf};
-ghost use Rattle.radio.specs.Receiver.{flagAfter, recordOf, recordSeen, freshLent, kindNumber, judgedBy, heardSeen, bothSeen};
-use crate::frames::FrameAnswer;
-use crate::frames::FrameSetting;
-use crate::frames::frame_answer;
-use crate::frames::framing_of;
-use link::Kind;
-use link::Record;
+ghost use Rattle.face.specs.Shown.{Shows};
+ghost use Rattle.face.specs.Frames.{framingOf};
+ghost use Rattle.face.specs.Receiver.{recordOf, recordSeen, freshLent, kindNumber, judgedBy, heardSeen, bothSeen};
+use face::frames::FrameAnswer;
+use face::frames::FrameSetting;
+use face::frames::frame_answer;
+use face::frames::framing_of;
+use face::receiver::HeardAnswer;
+use face::receiver::LentRecord;
+use face::receiver::kind_number;
+use face::receiver::record_of;
+use face::receiver::record_seen;
 use link::hear;
 use link::note;
 use link::standing_of;
-
-// The record as C lends it. C can put any byte where a `bool` is to be, so `accepted` is a byte: 0, or anything else for yes.
-#[repr(C)]
-pub struct LentRecord {
-    pub accepted: u8,
-    pub last: u16,
-    pub newer: u32,
-    pub repeat: u32,
-    pub older: u32,
-    pub refused: u32,
-}
-
-// The record after a frame, and what the frame was answered.
-#[repr(C)]
-pub struct HeardAnswer {
-    pub next: LentRecord,
-    pub answer: FrameAnswer,
-}
-
-// The record below.
-fn record_of(lent: LentRecord) -> Record
-    ensures { λ r. ⌜ r ≡ recordOf lent ⌝ }
-{
-    Record {
-        accepted: lent.accepted != 0,
-        last: lent.last,
-        newer: lent.newer,
-        repeat: lent.repeat,
-        older: lent.older,
-        refused: lent.refused,
-    }
-}
-
-// The byte that tells whether a frame was accepted. One that tells it already stays as it is, so that a record that is left alone
-// is left alone to the byte.
-fn flag_after(flag: u8, accepted: bool) -> u8
-    ensures { λ r. ⌜ r ≡ flagAfter flag accepted ⌝ }
-{
-    if flag != 0 {
-        return flag;
-    }
-    if accepted {
-        return 1;
-    }
-    0
-}
-
-// The next record as C sees it.
-fn record_seen(before: LentRecord, next: Record) -> LentRecord
-    ensures { λ r. ⌜ r ≡ recordSeen before next ⌝ }
-{
-    LentRecord {
-        accepted: flag_after(before.accepted, next.accepted),
-        last: next.last,
-        newer: next.newer,
-        repeat: next.repeat,
-        older: next.older,
-        refused: next.refused,
-    }
-}
-
-// The number of a standing, in the record's order.
-fn kind_number(kind: Kind) -> u8
-    ensures { λ r. ⌜ r ≡ kindNumber kind ⌝ }
-{
-    match kind {
-        Kind::Newer => 0,
-        Kind::Repeat => 1,
-        Kind::Older => 2,
-    }
-}
 
 // A record that has accepted nothing.
 #[no_mangle]

@@ -42,20 +42,20 @@ use denote.Triple.Walked.{says, Stays, stay-ref, stay-none, stay-none-slice, gav
 use denote.Triple.Clauses.{ensured, lasts}
 use denote.Exit.{yes}
 use Rattle.link.specs.Receiver.{hearOutcome, heard as heardOf}
-use Rattle.radio.specs.Shown.{Shows}
-use Rattle.radio.specs.Frames.{framingOf}
-use Rattle.radio.specs.Receiver.{recordOf, heardSeen}
-use Rattle.radio.specs.declared.receiver.LentRecord.{LentRecord}
-use Rattle.radio.specs.declared.receiver.HeardAnswer.{HeardAnswer}
-use Rattle.radio.specs.declared.frames.FrameSetting.{FrameSetting}
-use Rattle.radio.proofs.frames.FrameSetting as framing-type
-use Rattle.radio.proofs.frames.FrameSetting.Laws as framing-laws
-use Rattle.radio.proofs.receiver.LentRecord as T
-use Rattle.radio.proofs.receiver.LentRecord.Laws as T′
-use Rattle.radio.proofs.receiver.HeardAnswer as K
-use Rattle.radio.proofs.receiver.HeardAnswer.Laws as K′
-use Rattle.radio.proofs.frames.FrameAnswer as N
-use Rattle.radio.proofs.frames.FrameAnswer.Laws as N′
+use Rattle.face.specs.Shown.{Shows}
+use Rattle.face.specs.Frames.{framingOf}
+use Rattle.face.specs.Receiver.{recordOf, heardSeen}
+use Rattle.face.specs.declared.receiver.LentRecord.{LentRecord}
+use Rattle.face.specs.declared.receiver.HeardAnswer.{HeardAnswer}
+use Rattle.face.specs.declared.frames.FrameSetting.{FrameSetting}
+use Rattle.face.proofs.frames.FrameSetting as framing-type
+use Rattle.face.proofs.frames.FrameSetting.Laws as framing-laws
+use Rattle.face.proofs.receiver.LentRecord as T
+use Rattle.face.proofs.receiver.LentRecord.Laws as T′
+use Rattle.face.proofs.receiver.HeardAnswer as K
+use Rattle.face.proofs.receiver.HeardAnswer.Laws as K′
+use Rattle.face.proofs.frames.FrameAnswer as N
+use Rattle.face.proofs.frames.FrameAnswer.Laws as N′
 use Rattle.radio.proofs.receiver.yaxo_hear as g
 use Rattle.radio.proofs.receiver.yaxo_hear.Symbol as g-def
 use Rattle.radio.proofs.receiver.yaxo_hear.Symbol.{name as #radio·receiver·yaxo-hear}

@@ -38,11 +38,11 @@ use denote.Triple.Table.{entered, cited}
 use denote.Triple.Walked.{says, Stays, stay-ref, stay-none, walkOf, AllGo, goes-ref, goes-none, Walks, ends-at, walked, walk-meets}
 use denote.Triple.Clauses.{ensured, lasts}
 use denote.Exit.{yes}
-use Rattle.radio.specs.declared.receiver.LentRecord.{LentRecord}
+use Rattle.face.specs.declared.receiver.LentRecord.{LentRecord}
 use Rattle.record.specs.Record.{noted}
-use Rattle.radio.specs.Receiver.{recordOf, recordSeen}
-use Rattle.radio.proofs.receiver.LentRecord as T
-use Rattle.radio.proofs.receiver.LentRecord.Laws as T′
+use Rattle.face.specs.Receiver.{recordOf, recordSeen}
+use Rattle.face.proofs.receiver.LentRecord as T
+use Rattle.face.proofs.receiver.LentRecord.Laws as T′
 use Rattle.radio.proofs.receiver.yaxo_record_note as g
 use Rattle.radio.proofs.receiver.yaxo_record_note.Symbol as g-def
 use Rattle.radio.proofs.receiver.yaxo_record_note.Symbol.{name as #radio·receiver·yaxo-record-note}

@@ -1,8 +1,8 @@
 -- `frame_answer` meets its contract: each number is that of the answer, and the length is that of its payload.
 -- Assumes nothing.
 use borrow.Author.Needs.{needs}
-use Rattle.radio.proofs.frames.frame_answer.Statement.{statement}
-use Rattle.radio.proofs.frames.frame_answer.Tie as tie
+use Rattle.face.proofs.frames.frame_answer.Statement.{statement}
+use Rattle.face.proofs.frames.frame_answer.Tie as tie
 
 number-of-requires : tie.Need-number-of-requires
 number-of-requires c κs = search needs

@@ -9,9 +9,9 @@ use Rattle.word.specs.Answers.{numberOf, figuresOf, encodedNumber, outcome, enc
 use Rattle.word.specs.Answers.Laws.{encode-once, decode-once, decode-part-once}
 use Rattle.word.specs.declared.Setting.{Setting}
 use Rattle.word.specs.declared.Decoded.{Decoded}
-use Rattle.radio.specs.Shown.{Shows, shown-once}
-use Rattle.radio.specs.declared.words.CodeSetting.{CodeSetting}
-use Rattle.radio.specs.declared.words.WordAnswer.{WordAnswer}
+use Rattle.face.specs.Shown.{Shows, shown-once}
+use Rattle.face.specs.declared.words.CodeSetting.{CodeSetting}
+use Rattle.face.specs.declared.words.WordAnswer.{WordAnswer}
 
 abbrev pub codeOf : CodeSetting → Setting
 codeOf s = record { m = s .m; n = s .n; r = s .r; b = s .b }

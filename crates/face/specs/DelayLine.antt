@@ -10,11 +10,11 @@ use Rattle.line.specs.declared.setting.Line.{Line}
 use Rattle.line.specs.declared.setting.Ready.{Ready}
 use Rattle.line.specs.declared.sender.Sent.{Sent}
 use Rattle.line.specs.declared.receiver.Received.{Received}
-use Rattle.radio.specs.Shown.{Shows, shown-once}
-use Rattle.radio.specs.declared.delay_line.LineSetting.{LineSetting}
-use Rattle.radio.specs.declared.delay_line.LineReady.{LineReady}
-use Rattle.radio.specs.declared.delay_line.LineSent.{LineSent}
-use Rattle.radio.specs.declared.delay_line.LineReceived.{LineReceived}
+use Rattle.face.specs.Shown.{Shows, shown-once}
+use Rattle.face.specs.declared.delay_line.LineSetting.{LineSetting}
+use Rattle.face.specs.declared.delay_line.LineReady.{LineReady}
+use Rattle.face.specs.declared.delay_line.LineSent.{LineSent}
+use Rattle.face.specs.declared.delay_line.LineReceived.{LineReceived}
 
 abbrev pub lineOf : LineSetting → ℕ → Line
 lineOf s p = lineAt (s .branches) (s .unit) (s .n) p

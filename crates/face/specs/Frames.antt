@@ -17,9 +17,9 @@ use Rattle.frame.specs.declared.setting.Framing.{Framing}
 use Rattle.frame.specs.declared.setting.Received.{Received}
 use Rattle.link.specs.Sending.{send-once}
 use Rattle.link.specs.Receiving.{receive-once}
-use Rattle.radio.specs.Shown.{Shows, shown-once}
-use Rattle.radio.specs.declared.frames.FrameSetting.{FrameSetting}
-use Rattle.radio.specs.declared.frames.FrameAnswer.{FrameAnswer}
+use Rattle.face.specs.Shown.{Shows, shown-once}
+use Rattle.face.specs.declared.frames.FrameSetting.{FrameSetting}
+use Rattle.face.specs.declared.frames.FrameAnswer.{FrameAnswer}
 
 abbrev pub framingOf : FrameSetting → Framing
 framingOf s = record { depth = s .depth; n = s .n; r = s .r; b = s .b }

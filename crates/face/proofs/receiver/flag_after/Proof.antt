@@ -1,8 +1,8 @@
 -- `flag_after` meets its contract, case by case.
 -- Assumes nothing.
-use Rattle.radio.specs.Receiver.{flag-told, flag-first, flag-none}
-use Rattle.radio.proofs.receiver.flag_after.Statement.{statement}
-use Rattle.radio.proofs.receiver.flag_after.Tie as tie
+use Rattle.face.specs.Receiver.{flag-told, flag-first, flag-none}
+use Rattle.face.proofs.receiver.flag_after.Statement.{statement}
+use Rattle.face.proofs.receiver.flag_after.Tie as tie
 
 returns : tie.Need-returns
 returns c = flag-told _ _ (c .if1 .taken)

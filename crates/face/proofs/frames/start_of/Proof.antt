@@ -2,10 +2,10 @@
 -- Assumes nothing.
 use mathlib.Core.Path.{refl}
 use native.Mathlib.Omega.{arith}
-use Rattle.radio.specs.Frames.{start-refused, start-accepted}
+use Rattle.face.specs.Frames.{start-refused, start-accepted}
 use borrow.Author.Needs.{needs}
-use Rattle.radio.proofs.frames.start_of.Statement.{statement}
-use Rattle.radio.proofs.frames.start_of.Tie as tie
+use Rattle.face.proofs.frames.start_of.Statement.{statement}
+use Rattle.face.proofs.frames.start_of.Tie as tie
 
 returns : tie.Need-returns
 returns c = start-refused _ _ _ (c .if1 .taken)

@@ -1,8 +1,8 @@
 -- `word_answer` meets its contract: number and figures are those of the answer.
 -- Assumes nothing.
 use borrow.Author.Needs.{needs}
-use Rattle.radio.proofs.words.word_answer.Statement.{statement}
-use Rattle.radio.proofs.words.word_answer.Tie as tie
+use Rattle.face.proofs.words.word_answer.Statement.{statement}
+use Rattle.face.proofs.words.word_answer.Tie as tie
 
 number-of-requires : tie.Need-number-of-requires
 number-of-requires c κs = search needs

@@ -17,12 +17,12 @@ use Rattle.record.specs.declared.Kind.the-variants.{Newer, Repeat, Older}
 use Rattle.link.specs.Receiver.{hearOutcome, heard}
 use Rattle.link.specs.Receiver.Laws.{hear-once}
 use Rattle.link.specs.declared.receiver.Heard.{Heard}
-use Rattle.radio.specs.Shown.{Shows, shown-once}
-use Rattle.radio.specs.Frames.{framingOf, frameSeen}
-use Rattle.radio.specs.declared.frames.FrameSetting.{FrameSetting}
-use Rattle.radio.specs.declared.frames.FrameAnswer.{FrameAnswer}
-use Rattle.radio.specs.declared.receiver.LentRecord.{LentRecord}
-use Rattle.radio.specs.declared.receiver.HeardAnswer.{HeardAnswer}
+use Rattle.face.specs.Shown.{Shows, shown-once}
+use Rattle.face.specs.Frames.{framingOf, frameSeen}
+use Rattle.face.specs.declared.frames.FrameSetting.{FrameSetting}
+use Rattle.face.specs.declared.frames.FrameAnswer.{FrameAnswer}
+use Rattle.face.specs.declared.receiver.LentRecord.{LentRecord}
+use Rattle.face.specs.declared.receiver.HeardAnswer.{HeardAnswer}
 
 -- any byte but 0 says that a frame was accepted
 abbrev pub recordOf : LentRecord → Record
