@@ -61,9 +61,11 @@ fn row(name: &str, codecs: &mut [Box<dyn Codec>], traffic: &Traffic, damage: Dam
     let mut work: Vec<Work> = Vec::new();
     for codec in codecs {
         traffic.tried(codec.as_mut(), damage);
-        work.push(Box::new(move |from| traffic.run(codec.as_mut(), damage, from)));
+        work.push(Box::new(move |from, count| {
+            traffic.run(codec.as_mut(), damage, from, count)
+        }));
     }
-    let times = medians(&mut work, traffic.count());
+    let times = medians(&mut work);
     let (ours, plain) = (times[0], times[1]);
     let (fec, ratio) = match times.get(2) {
         Some(&fec) => (spoken(fec), format!("{:.2}", ours / fec)),

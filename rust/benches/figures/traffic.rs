@@ -95,15 +95,11 @@ impl Traffic {
         }
     }
 
-    pub fn count(&self) -> usize {
-        self.letters.len()
-    }
-
-    /// One pass over all words; the codec's answer is kept from being optimized away.
-    pub fn run(&self, codec: &mut dyn Codec, damage: Damage, from: usize) {
+    /// So many words, beginning with one of them; the codec's answer is kept from being optimized away.
+    pub fn run(&self, codec: &mut dyn Codec, damage: Damage, from: usize, count: usize) {
         let mut work = [0; 255];
-        for i in 0..self.letters.len() {
-            let letter = &self.letters[(from + i) % self.letters.len()];
+        for i in from..from + count {
+            let letter = &self.letters[i % self.letters.len()];
             let word = &mut work[..letter.sent.len()];
             if damage.kind == Kind::Encode {
                 codec.encode(&letter.sent[..self.message], word);
