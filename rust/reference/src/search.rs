@@ -66,6 +66,65 @@ impl Codewords {
     }
 }
 
+/// For each of the 8^n words, by its number, the codeword that differs in at most t places; n has at most seven symbols.
+///
+/// It is made the other way round than [`Codewords::nearest`]: every codeword claims the words around it. A word that two
+/// of them claim would contradict the paper, and is left to neither.
+pub struct Neighbourhoods {
+    owners: Vec<Owner>,
+    codewords: Codewords,
+}
+
+#[derive(Clone, Copy, PartialEq)]
+enum Owner {
+    None,
+    One(u32),
+    Several,
+}
+
+/// A word as a number to the base 8, its first symbol weighing most.
+fn number(word: &[u8]) -> usize {
+    word.iter().fold(0, |sum, &symbol| sum * 8 + symbol as usize)
+}
+
+impl Neighbourhoods {
+    pub fn new(n: usize, codewords: Codewords, t: usize) -> Neighbourhoods {
+        let mut owners = vec![Owner::None; 1 << (3 * n)];
+        for (index, word) in codewords.words.iter().enumerate() {
+            claim(&mut owners, &mut word.clone(), 0, t, index as u32);
+        }
+        Neighbourhoods { owners, codewords }
+    }
+
+    /// The codeword near this word.
+    pub fn of(&self, word: &[u8]) -> Option<&[u8]> {
+        match self.owners[number(word)] {
+            Owner::One(index) => Some(&self.codewords.words[index as usize]),
+            Owner::None | Owner::Several => None,
+        }
+    }
+}
+
+/// Claims the word, and all that differ from it in at most t places from this place on.
+fn claim(owners: &mut [Owner], word: &mut [u8], from: usize, t: usize, index: u32) {
+    let owner = &mut owners[number(word)];
+    *owner = if *owner == Owner::None {
+        Owner::One(index)
+    } else {
+        Owner::Several
+    };
+    if t == 0 {
+        return;
+    }
+    for place in from..word.len() {
+        for change in 1..8 {
+            word[place] ^= change;
+            claim(owners, word, place + 1, t - 1, index);
+            word[place] ^= change;
+        }
+    }
+}
+
 /// The next word of symbols below 8 in counting order; false after the last.
 pub fn next(word: &mut [u8]) -> bool {
     for symbol in word.iter_mut().rev() {

@@ -139,6 +139,40 @@ fn sent_damaged_and_received() {
     println!("1500 frames each way");
 }
 
+/// Frames one after the other into one record: newer, repeated, late and lost ones.
+#[test]
+fn heard_in_turn() {
+    let mut noise = Noise::new(53);
+    let s = Setting {
+        depth: 2,
+        n: 9,
+        r: 4,
+        b: 1,
+    };
+    let (mut record, mut judge) = (Record::fresh(), plain_record::Record::default());
+    let mut sequence = 65000u16;
+    for _ in 0..20_000 {
+        sequence = sequence
+            .wrapping_add(noise.below(4) as u16)
+            .wrapping_sub((noise.below(8) == 0) as u16);
+        let mut slots = plain::slots_of(plain(s), &plain::area_of(plain(s), &noise.bytes(3), sequence));
+        let mut marks = vec![0; 18];
+        let beyond = (noise.below(5) == 0).then_some(1);
+        damage(&mut noise, s, &mut slots, &mut marks, beyond);
+        let (mut ours, mut theirs) = ([0; 10], [0; 10]);
+        let answer = heard(s, &mut record, &slots, &marks, &mut ours);
+        assert_eq!(answer, plain::receive(plain(s), &slots, &marks, &mut theirs));
+        judge.note(
+            answer.as_ref().err().map_or(0, |refused| refused.0),
+            answer.map_or(0, |frame| frame.sequence),
+        );
+        assert_eq!((record::plain(record), ours), (judge, theirs));
+    }
+    let least = judge.newer.min(judge.repeat).min(judge.older).min(judge.refused);
+    assert!(least > 500, "{judge:?}: the test does not try what it says");
+    println!("20000 frames");
+}
+
 /// Trailers that point too far back, and bytes before the payload that are not zero.
 #[test]
 fn trailers() {

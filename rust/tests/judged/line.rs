@@ -3,6 +3,7 @@
 use reference::line as plain;
 use reference::noise::Noise;
 use yaxopetzo::line::{Receiver, Sender, Setting};
+use yaxopetzo::word::Setting as Code;
 use yaxopetzo::Refusal;
 
 fn plain(s: Setting) -> plain::Setting {
@@ -99,6 +100,37 @@ fn steps_and_runs() {
         steps += 3 * bytes.len();
     }
     println!("{steps} steps");
+}
+
+/// Words over a line on which a run of I * t slots is struck: every word comes back.
+#[test]
+fn words_under_a_run_of_damage() {
+    let mut noise = Noise::new(62);
+    let (s, code) = (Setting::EN_300_421, Code::EN_300_421);
+    let delay = (s.branches - 1) * s.unit * s.branches;
+    for round in 0..12 {
+        let messages: Vec<Vec<u8>> = (0..8).map(|_| noise.bytes(188)).collect();
+        let mut bytes = vec![0; 8 * 204 + delay];
+        for (message, word) in messages.iter().zip(bytes.chunks_mut(204)) {
+            assert_eq!(code.encode(message, word), Ok(()));
+        }
+        let mut slots = sent(&mut noise, s, &bytes);
+        let start = noise.below(slots.len() - 96);
+        let run: Vec<usize> = (start..start + 96).collect();
+        noise.strike(&mut slots, &run, 256);
+        let marks = vec![0; slots.len()];
+        let mut out = received(&mut noise, s, &slots, &marks).split_off(delay);
+        for (message, word) in messages.iter().zip(out.chunks_mut(204)) {
+            let (mut word, marks): (Vec<u8>, Vec<u8>) = word.iter().copied().unzip();
+            let answer = code.decode(&mut word, &marks);
+            assert!(
+                answer.is_ok_and(|figures| figures.errors <= 8 && figures.marked == 0),
+                "round {round}"
+            );
+            assert_eq!(word[..188], message[..]);
+        }
+    }
+    println!("96 words");
 }
 
 /// Small lines whose position comes round many times.

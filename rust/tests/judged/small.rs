@@ -1,7 +1,8 @@
 //! The field of eight elements against a search through all codewords: no algebra at all on the judge's side.
 
+use reference::code::figures;
 use reference::noise::Noise;
-use reference::search::{next, Codewords};
+use reference::search::{next, Codewords, Neighbourhoods};
 use yaxopetzo::word::Setting;
 
 use crate::same::numbered;
@@ -51,20 +52,24 @@ fn every_word_and_every_mark() {
     println!("{count} words");
 }
 
-/// A stretch of unmarked words, one after the other, of the paper's example and of the same with b = 0.
+/// All 2,097,152 unmarked words of the textbook's code.
 #[test]
-fn a_stretch_of_the_example() {
-    for b in [0, 1] {
-        let s = Setting { m: 3, n: 7, r: 4, b };
-        let all = Codewords::new(s.n, s.r, s.b);
-        let mut noise = Noise::new(3 + b as u64);
-        let mut word = noise.symbols(7, 8);
-        for _ in 0..100_000 {
-            judged(s, &all, &word, &[0; 7]);
-            next(&mut word);
+fn every_word_of_sklars_code() {
+    let s = Setting { m: 3, n: 7, r: 4, b: 1 };
+    let near = Neighbourhoods::new(7, Codewords::new(7, 4, 1), 2);
+    let mut received = [0; 7];
+    loop {
+        let mut word = received;
+        let answer = numbered(s.decode(&mut word, &[0; 7]));
+        let right = near.of(&received);
+        let figures = right.map(|right| figures(&received, right, &[0; 7]));
+        assert_eq!(answer, figures.ok_or(4), "{received:?}");
+        assert_eq!(word, right.unwrap_or(&received), "{received:?}");
+        if !next(&mut received) {
+            break;
         }
     }
-    println!("200000 words");
+    println!("2097152 words");
 }
 
 /// Random words and marks where n is 5 to 7, for every r.
