@@ -21,7 +21,7 @@ quietly() { # WHAT COMMAND..
 
 # The calls that take and give a record by value are not needed: the face has those that are lent one.
 for call in $(grep -o '\byaxo_[a-z_]*(' include/yaxopetzo.h | tr -d '(' | sort -u | grep -vxE 'yaxo_hear|yaxo_record_note'); do
-  grep -q "fn $call(" rust/src/ffi.rs || { echo "the Rust face lacks $call"; exit 1; }
+  grep -q "fn $call(" rust/src/ffi/header.rs || { echo "the Rust face lacks $call"; exit 1; }
 done
 
 quietly "no archive of the radio library" tools/native-archive radio

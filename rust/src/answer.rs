@@ -76,11 +76,7 @@ pub struct Figures {
 
 impl From<ffi::Figures> for Figures {
     fn from(found: ffi::Figures) -> Figures {
-        Figures {
-            errors: found.errors,
-            marked: found.marked,
-            bits: found.bits,
-        }
+        Figures { errors: found.errors, marked: found.marked, bits: found.bits }
     }
 }
 

@@ -26,13 +26,7 @@ impl<'a> Sender<'a> {
     /// A sender at position 0; fills the memory with zeros. Refused 2 for its length, and it stays as it was.
     pub fn fresh(memory: &'a mut [u8]) -> Result<Sender<'a>, Refusal> {
         let ready = ffi::cross_fresh_sender(memory);
-        answered(
-            ready.answer,
-            Sender {
-                position: ready.position,
-                memory,
-            },
-        )
+        answered(ready.answer, Sender { position: ready.position, memory })
     }
 
     /// A sender as it was put away: its memory and its position. Nothing is checked until it sends.
@@ -68,14 +62,7 @@ impl<'a> Receiver<'a> {
     /// length, and both stay as they were.
     pub fn fresh(memory: &'a mut [u8], held: &'a mut [u8]) -> Result<Receiver<'a>, Refusal> {
         let ready = ffi::cross_fresh_receiver(memory, held);
-        answered(
-            ready.answer,
-            Receiver {
-                position: ready.position,
-                memory,
-                held,
-            },
-        )
+        answered(ready.answer, Receiver { position: ready.position, memory, held })
     }
 
     /// A receiver as it was put away: its memories and its position. Nothing is checked until it receives.

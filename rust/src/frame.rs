@@ -83,12 +83,7 @@ impl Setting {
     }
 
     fn framing(self) -> ffi::Framing {
-        ffi::Framing {
-            depth: narrow(self.depth),
-            n: narrow(self.n),
-            r: narrow(self.r),
-            b: narrow(self.b),
-        }
+        ffi::Framing { depth: narrow(self.depth), n: narrow(self.n), r: narrow(self.r), b: narrow(self.b) }
     }
 
     /// Whether the limits are kept; every other call answers [`Refusal::Setting`] where they are not.

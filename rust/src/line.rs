@@ -20,11 +20,7 @@ pub struct Setting {
 
 impl Setting {
     /// ETSI's line for satellite television: memories of 1122 bytes.
-    pub const EN_300_421: Setting = Setting {
-        branches: 12,
-        unit: 17,
-        n: 204,
-    };
+    pub const EN_300_421: Setting = Setting { branches: 12, unit: 17, n: 204 };
 
     /// The bytes of a memory, M · I · (I − 1) / 2. A receiver has a second one as long for its marks.
     ///
@@ -35,11 +31,7 @@ impl Setting {
     }
 
     fn line(self) -> ffi::Line {
-        ffi::Line {
-            branches: narrow(self.branches),
-            unit: narrow(self.unit),
-            n: narrow(self.n),
-        }
+        ffi::Line { branches: narrow(self.branches), unit: narrow(self.unit), n: narrow(self.n) }
     }
 }
 
@@ -57,23 +49,12 @@ impl<'a> Sender<'a> {
     /// Refused 1 for the setting, 2 for the memory's length; the memory then stays as it was.
     pub fn fresh(setting: Setting, memory: &'a mut [u8]) -> Result<Sender<'a>, Refusal> {
         let ready = ffi::line_fresh_sender(setting.line(), memory);
-        answered(
-            ready.answer,
-            Sender {
-                setting,
-                position: ready.position,
-                memory,
-            },
-        )
+        answered(ready.answer, Sender { setting, position: ready.position, memory })
     }
 
     /// A sender as it was put away: its memory and its position. Nothing is checked until it steps.
     pub fn resume(setting: Setting, position: usize, memory: &'a mut [u8]) -> Sender<'a> {
-        Sender {
-            setting,
-            position,
-            memory,
-        }
+        Sender { setting, position, memory }
     }
 
     /// The number of steps so far, modulo the line's period. With the memory it is all there is to keep.
@@ -113,25 +94,12 @@ impl<'a> Receiver<'a> {
     /// Refused 1 for the setting, 2 for a length; both then stay as they were.
     pub fn fresh(setting: Setting, memory: &'a mut [u8], held: &'a mut [u8]) -> Result<Receiver<'a>, Refusal> {
         let ready = ffi::line_fresh_receiver(setting.line(), memory, held);
-        answered(
-            ready.answer,
-            Receiver {
-                setting,
-                position: ready.position,
-                memory,
-                held,
-            },
-        )
+        answered(ready.answer, Receiver { setting, position: ready.position, memory, held })
     }
 
     /// A receiver as it was put away: its memories and its position. Nothing is checked until it steps.
     pub fn resume(setting: Setting, position: usize, memory: &'a mut [u8], held: &'a mut [u8]) -> Receiver<'a> {
-        Receiver {
-            setting,
-            position,
-            memory,
-            held,
-        }
+        Receiver { setting, position, memory, held }
     }
 
     /// The number of steps so far, modulo the line's period.

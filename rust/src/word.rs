@@ -29,20 +29,10 @@ pub struct Setting {
 
 impl Setting {
     /// ETSI's code for satellite television: 188 message bytes, 16 check bytes.
-    pub const EN_300_421: Setting = Setting {
-        m: 8,
-        n: 204,
-        r: 16,
-        b: 0,
-    };
+    pub const EN_300_421: Setting = Setting { m: 8, n: 204, r: 16, b: 0 };
 
     fn code(self) -> ffi::Code {
-        ffi::Code {
-            m: narrow(self.m),
-            n: narrow(self.n),
-            r: narrow(self.r),
-            b: narrow(self.b),
-        }
+        ffi::Code { m: narrow(self.m), n: narrow(self.n), r: narrow(self.r), b: narrow(self.b) }
     }
 
     /// Whether the limits are kept; every other call answers [`Refusal::Setting`] where they are not.

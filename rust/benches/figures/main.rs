@@ -34,11 +34,7 @@ fn main() {
 fn codecs(s: Setting) -> Option<Vec<Box<dyn Codec>>> {
     let plain = Plain(Code::new(s.m, s.n, s.r, s.b)?);
     #[cfg(feature = "libfec")]
-    return Some(vec![
-        Box::new(Proved(s)),
-        Box::new(plain),
-        Box::new(libfec::Fec::new(s)?),
-    ]);
+    return Some(vec![Box::new(Proved(s)), Box::new(plain), Box::new(libfec::Fec::new(s)?)]);
     #[cfg(not(feature = "libfec"))]
     return Some(vec![Box::new(Proved(s)), Box::new(plain)]);
 }
@@ -61,9 +57,7 @@ fn row(name: &str, codecs: &mut [Box<dyn Codec>], traffic: &Traffic, damage: Dam
     let mut work: Vec<Work> = Vec::new();
     for codec in codecs {
         traffic.tried(codec.as_mut(), damage);
-        work.push(Box::new(move |from, count| {
-            traffic.run(codec.as_mut(), damage, from, count)
-        }));
+        work.push(Box::new(move |from, count| traffic.run(codec.as_mut(), damage, from, count)));
     }
     let times = medians(&mut work);
     let (ours, plain) = (times[0], times[1]);
@@ -71,12 +65,7 @@ fn row(name: &str, codecs: &mut [Box<dyn Codec>], traffic: &Traffic, damage: Dam
         Some(&fec) => (spoken(fec), format!("{:.2}", ours / fec)),
         None => ("-".into(), "-".into()),
     };
-    println!(
-        "| {name} | {} | {fec} | {} | {ratio} | {:.2} |",
-        spoken(ours),
-        spoken(plain),
-        ours / plain
-    );
+    println!("| {name} | {} | {fec} | {} | {ratio} | {:.2} |", spoken(ours), spoken(plain), ours / plain);
 }
 
 /// A time in the unit that suits it.

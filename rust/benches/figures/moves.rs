@@ -30,12 +30,7 @@ pub fn rows(only: Option<&str>) {
     }
     if let Ok(mut receiver) = Receiver::fresh(setting, &mut other, &mut held) {
         let receive = |_, count| (0..count).for_each(|_| kept(receiver.run(black_box(&mut run), &mut run_marks)));
-        row(
-            only,
-            "line, receive: the same, with its marks",
-            2 * BYTES,
-            Box::new(receive),
-        );
+        row(only, "line, receive: the same, with its marks", 2 * BYTES, Box::new(receive));
     }
 }
 
@@ -51,10 +46,5 @@ fn row(only: Option<&str>, name: &str, count: usize, move_all: Work) {
     let (from, mut to) = (vec![1u8; count], vec![0u8; count]);
     let copy = |_, count| (0..count).for_each(|_| black_box(&mut to[..]).copy_from_slice(black_box(&from)));
     let times = medians(&mut [move_all, Box::new(copy)]);
-    println!(
-        "| {name} | {} | {} | {:.1} |",
-        spoken(times[0]),
-        spoken(times[1]),
-        times[0] / times[1]
-    );
+    println!("| {name} | {} | {} | {:.1} |", spoken(times[0]), spoken(times[1]), times[0] / times[1]);
 }

@@ -28,12 +28,7 @@ pub enum Kind {
 }
 
 const fn damage(name: &'static str, marked: usize, wrong: usize, kind: Kind) -> Damage {
-    Damage {
-        name,
-        marked,
-        wrong,
-        kind,
-    }
+    Damage { name, marked, wrong, kind }
 }
 
 /// The rows that r check symbols have room for.
@@ -89,10 +84,7 @@ impl Traffic {
                 letters.push(letter);
             }
         }
-        Traffic {
-            letters,
-            message: s.n - s.r,
-        }
+        Traffic { letters, message: s.n - s.r }
     }
 
     /// So many words, beginning with one of them; the codec's answer is kept from being optimized away.
@@ -140,10 +132,5 @@ fn letter(noise: &mut Noise, s: Setting, damage: Damage) -> Letter {
     let marked = places[..damage.marked].to_vec();
     let mut marks = vec![0; s.n];
     marked.iter().for_each(|&place| marks[place] = 1);
-    Letter {
-        sent,
-        received,
-        marks,
-        marked,
-    }
+    Letter { sent, received, marks, marked }
 }

@@ -32,14 +32,7 @@ impl Code {
         let generator = generator(&field, r, b);
         let exponent = |&c: &u8| (c != 0).then(|| field.exponent(c) as u16);
         let taps = generator.iter().skip(1).map(exponent).collect();
-        Some(Code {
-            field,
-            n,
-            r,
-            b,
-            generator,
-            taps,
-        })
+        Some(Code { field, n, r, b, generator, taps })
     }
 
     /// The polynomial whose roots are a^b .. a^(b+r-1), highest power first.
@@ -94,11 +87,7 @@ impl Code {
         }
         let sums = self.syndromes(word);
         if sums.iter().all(|&s| s == 0) {
-            return Some(Figures {
-                errors: 0,
-                marked,
-                bits: 0,
-            });
+            return Some(Figures { errors: 0, marked, bits: 0 });
         }
         let errata = self.errata(&sums, marks, marked)?;
         let places = self.places(&errata)?;

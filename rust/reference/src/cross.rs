@@ -50,12 +50,7 @@ impl Receiver {
     pub fn fresh() -> Option<Receiver> {
         let (outer, inner) = codes()?;
         let queues = (0..28).map(|i| VecDeque::from(vec![(0, 1); 4 * (27 - i)])).collect();
-        Some(Receiver {
-            outer,
-            inner,
-            queues,
-            frames: 0,
-        })
+        Some(Receiver { outer, inner, queues, frames: 0 })
     }
 
     /// Answers 7 for the first 108 frames and leaves the message; then 0 with the message, or 4 with zeros.

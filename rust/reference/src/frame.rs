@@ -15,12 +15,7 @@ pub struct Setting {
 
 impl Setting {
     fn code(self) -> Code {
-        Code {
-            m: 8,
-            n: self.n,
-            r: self.r,
-            b: self.b,
-        }
+        Code { m: 8, n: self.n, r: self.r, b: self.b }
     }
 
     pub fn is_allowed(self) -> bool {
@@ -94,11 +89,7 @@ pub fn receive(setting: Setting, slots: &[u8], marks: &[u8], area: &mut [u8]) ->
     }
     let answer = words(setting, slots, marks, area).and_then(|figures| {
         let (sequence, payload) = trailer(area).ok_or((5, 0))?;
-        Ok(Frame {
-            sequence,
-            payload,
-            figures,
-        })
+        Ok(Frame { sequence, payload, figures })
     });
     if answer.is_err() {
         area.fill(0);

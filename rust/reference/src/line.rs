@@ -46,10 +46,7 @@ pub struct Sender {
 impl Sender {
     pub fn fresh(setting: Setting) -> Sender {
         let queue = |j| VecDeque::from(vec![0; j * setting.unit]);
-        Sender {
-            queues: (0..setting.branches).map(queue).collect(),
-            step: 0,
-        }
+        Sender { queues: (0..setting.branches).map(queue).collect(), step: 0 }
     }
 
     pub fn step(&mut self, byte: u8) -> u8 {
@@ -70,10 +67,7 @@ pub struct Receiver {
 impl Receiver {
     pub fn fresh(setting: Setting) -> Receiver {
         let queue = |j| VecDeque::from(vec![(0, 1); (setting.branches - 1 - j) * setting.unit]);
-        Receiver {
-            queues: (0..setting.branches).map(queue).collect(),
-            step: 0,
-        }
+        Receiver { queues: (0..setting.branches).map(queue).collect(), step: 0 }
     }
 
     pub fn step(&mut self, byte: u8, mark: u8) -> (u8, u8) {

@@ -108,11 +108,7 @@ impl Neighbourhoods {
 /// Claims the word, and all that differ from it in at most t places from this place on.
 fn claim(owners: &mut [Owner], word: &mut [u8], from: usize, t: usize, index: u32) {
     let owner = &mut owners[number(word)];
-    *owner = if *owner == Owner::None {
-        Owner::One(index)
-    } else {
-        Owner::Several
-    };
+    *owner = if *owner == Owner::None { Owner::One(index) } else { Owner::Several };
     if t == 0 {
         return;
     }

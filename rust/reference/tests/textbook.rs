@@ -12,14 +12,7 @@ fn sklar() {
     assert_eq!(word, [7, 3, 2, 5, 6, 4, 1]);
     let mut received = [7, 3, 5, 1, 6, 4, 1];
     assert_eq!(code.syndromes(&received), [3, 7, 5, 0]);
-    assert_eq!(
-        code.decode(&mut received, &[0; 7]),
-        Some(Figures {
-            errors: 2,
-            marked: 0,
-            bits: 4
-        })
-    );
+    assert_eq!(code.decode(&mut received, &[0; 7]), Some(Figures { errors: 2, marked: 0, bits: 4 }));
     assert_eq!(received, word);
 }
 
@@ -27,8 +20,5 @@ fn sklar() {
 #[test]
 fn en_300_421() {
     let code = Code::new(8, 204, 16, 0).expect("within the limits");
-    assert_eq!(
-        code.generator(),
-        [1, 59, 13, 104, 189, 68, 209, 30, 8, 163, 65, 41, 229, 98, 50, 36, 59]
-    );
+    assert_eq!(code.generator(), [1, 59, 13, 104, 189, 68, 209, 30, 8, 163, 65, 41, 229, 98, 50, 36, 59]);
 }

@@ -37,14 +37,8 @@ fn refused() {
     for depth in [0, 1, 2, 15, 16, 17, 256 + 4, usize::MAX] {
         for n in [0, 2, 3, 4, 254, 255, 256, 256 + 5, usize::MAX] {
             let size = depth.min(20) * n.min(300);
-            for (x, y) in [
-                (size, size),
-                (size + 1, size),
-                (size, size + 1),
-                (0, size),
-                (size, 0),
-                (size / 2, size / 2),
-            ] {
+            for (x, y) in [(size, size), (size + 1, size), (size, size + 1), (0, size), (size, 0), (size / 2, size / 2)]
+            {
                 let _ = moved(depth, n, &vec![1; x], &vec![9; y]);
             }
         }

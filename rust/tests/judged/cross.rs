@@ -19,10 +19,7 @@ fn streamed(seed: u64, frames: usize, damage: Damage) -> [usize; 8] {
     let (mut sent_memory, mut memory, mut held) = (noise.bytes(MEMORY), noise.bytes(MEMORY), noise.bytes(MEMORY));
     let mut sender = Sender::fresh(&mut sent_memory).expect("1512 bytes");
     let mut receiver = Receiver::fresh(&mut memory, &mut held).expect("1512 bytes twice");
-    let (mut sends, mut receives) = (
-        plain::Sender::fresh().expect("codes"),
-        plain::Receiver::fresh().expect("codes"),
-    );
+    let (mut sends, mut receives) = (plain::Sender::fresh().expect("codes"), plain::Receiver::fresh().expect("codes"));
     let mut answers = [0; 8];
     let mut message = [0; 24];
     for frame in 0..frames {
@@ -47,32 +44,16 @@ fn streamed(seed: u64, frames: usize, damage: Damage) -> [usize; 8] {
 #[test]
 fn undamaged_and_within_the_inner_code() {
     assert_eq!(streamed(70, 1500, |_, _| 0), [1392, 0, 0, 0, 0, 0, 0, 108]);
-    assert_eq!(
-        streamed(71, 1500, |noise, _| noise.below(3)),
-        [1392, 0, 0, 0, 0, 0, 0, 108]
-    );
+    assert_eq!(streamed(71, 1500, |noise, _| noise.below(3)), [1392, 0, 0, 0, 0, 0, 0, 108]);
     println!("3000 frames");
 }
 
 /// Inner words beyond reach now and then: the outer code mends what it can, and refuses the rest.
 #[test]
 fn beyond_the_inner_code() {
-    let often = streamed(72, 4000, |noise, _| {
-        if noise.below(4) == 0 {
-            noise.between(3, 32)
-        } else {
-            noise.below(3)
-        }
-    });
-    assert!(
-        often[4] > 500 && often[0] > 500,
-        "{often:?}: the test does not try what it says"
-    );
-    let seldom = streamed(
-        73,
-        4000,
-        |noise, _| if noise.below(20) == 0 { noise.between(3, 32) } else { 0 },
-    );
+    let often = streamed(72, 4000, |noise, _| if noise.below(4) == 0 { noise.between(3, 32) } else { noise.below(3) });
+    assert!(often[4] > 500 && often[0] > 500, "{often:?}: the test does not try what it says");
+    let seldom = streamed(73, 4000, |noise, _| if noise.below(20) == 0 { noise.between(3, 32) } else { 0 });
     assert!(seldom[0] > 3000, "{seldom:?}");
     let noise_alone = streamed(74, 1000, |_, _| 32);
     assert!(noise_alone[4] > 800, "{noise_alone:?}");
@@ -123,10 +104,7 @@ fn refused(position: usize, sizes: [usize; 4], mark: u8, why: Refusal) {
     let mut receiver = Receiver::resume(position, &mut memory, &mut held);
     assert_eq!(receiver.receive(&word, &mut message), Err(why), "{position} {sizes:?}");
     assert_eq!(receiver.position(), position);
-    assert_eq!(
-        (&memory, &held, &message),
-        (&vec![3; memory_size], &kept, &vec![6; message_size])
-    );
+    assert_eq!((&memory, &held, &message), (&vec![3; memory_size], &kept, &vec![6; message_size]));
     if mark == 0 && held_size == MEMORY {
         let mut sender = Sender::resume(position, &mut memory);
         assert_eq!(sender.send(&message, &mut word), Err(why), "{position} {sizes:?}");
@@ -163,14 +141,8 @@ fn fresh() {
         let mut memory = vec![3; size];
         let mut other = vec![3; MEMORY];
         assert_eq!(Sender::fresh(&mut memory).map(|_| ()), Err(Refusal::Length));
-        assert_eq!(
-            Receiver::fresh(&mut memory, &mut other).map(|_| ()),
-            Err(Refusal::Length)
-        );
-        assert_eq!(
-            Receiver::fresh(&mut other, &mut memory).map(|_| ()),
-            Err(Refusal::Length)
-        );
+        assert_eq!(Receiver::fresh(&mut memory, &mut other).map(|_| ()), Err(Refusal::Length));
+        assert_eq!(Receiver::fresh(&mut other, &mut memory).map(|_| ()), Err(Refusal::Length));
         assert_eq!((memory, other), (vec![3; size], vec![3; MEMORY]));
     }
 }

@@ -10,12 +10,7 @@ use crate::record;
 use crate::same::counted;
 
 fn plain(s: Setting) -> plain::Setting {
-    plain::Setting {
-        depth: s.depth,
-        n: s.n,
-        r: s.r,
-        b: s.b,
-    }
+    plain::Setting { depth: s.depth, n: s.n, r: s.r, b: s.b }
 }
 
 /// What an accepted frame holds, or number and word of a refusal.
@@ -27,27 +22,15 @@ fn heard(s: Setting, record: &mut Record, slots: &[u8], marks: &[u8], area: &mut
     let answer = s.hear(record, slots, marks, area);
     let numbered = |refused: Refused| (refused.why.number(), refused.word);
     let frame = answer.map_err(numbered)?;
-    assert_eq!(
-        frame.payload.as_ptr() as usize + frame.payload.len() + 4,
-        end,
-        "the payload is no part of the area"
-    );
+    assert_eq!(frame.payload.as_ptr() as usize + frame.payload.len() + 4, end, "the payload is no part of the area");
     let figures: Vec<code::Figures> = frame.words().iter().map(|&f| counted(f)).collect();
-    Ok(plain::Frame {
-        sequence: frame.sequence,
-        payload: frame.payload.to_vec(),
-        figures,
-    })
+    Ok(plain::Frame { sequence: frame.sequence, payload: frame.payload.to_vec(), figures })
 }
 
 /// Receives on both sides, alone and with the record.
 fn received(s: Setting, slots: &[u8], marks: &[u8], before: &[u8]) -> Answer {
     let (mut ours, mut theirs) = (before.to_vec(), before.to_vec());
-    let mut record = Record {
-        accepted: true,
-        last: 7,
-        ..Record::fresh()
-    };
+    let mut record = Record { accepted: true, last: 7, ..Record::fresh() };
     let mut judge: plain_record::Record = record::plain(record);
     let answer = heard(s, &mut record, slots, marks, &mut ours);
     let expected = plain::receive(plain(s), slots, marks, &mut theirs);
@@ -59,14 +42,9 @@ fn received(s: Setting, slots: &[u8], marks: &[u8], before: &[u8]) -> Answer {
     }
     assert_eq!(record::plain(record), judge, "{s:?}");
     let mut alone = before.to_vec();
-    let number = s
-        .receive(slots, marks, &mut alone)
-        .map(|frame| frame.sequence)
-        .map_err(|refused| refused.why.number());
-    assert_eq!(
-        number,
-        answer.as_ref().map(|frame| frame.sequence).map_err(|refused| refused.0)
-    );
+    let number =
+        s.receive(slots, marks, &mut alone).map(|frame| frame.sequence).map_err(|refused| refused.why.number());
+    assert_eq!(number, answer.as_ref().map(|frame| frame.sequence).map_err(|refused| refused.0));
     assert_eq!(alone, ours, "{s:?}");
     answer
 }
@@ -85,15 +63,8 @@ fn setting(noise: &mut Noise) -> Setting {
     loop {
         let depth = *[1, 2, 3, 16, noise.between(1, 16)].get(noise.below(5)).unwrap_or(&1);
         let r = *[2, 3, 16, noise.between(2, 16)].get(noise.below(4)).unwrap_or(&2);
-        let n = *[r + 1, r + 2, r + 4, 32, 255, noise.between(r + 1, 255)]
-            .get(noise.below(6))
-            .unwrap_or(&255);
-        let s = Setting {
-            depth,
-            n,
-            r,
-            b: noise.below(2),
-        };
+        let n = *[r + 1, r + 2, r + 4, 32, 255, noise.between(r + 1, 255)].get(noise.below(6)).unwrap_or(&255);
+        let s = Setting { depth, n, r, b: noise.below(2) };
         if n > r && depth * (n - r) >= 4 {
             return s;
         }
@@ -130,10 +101,7 @@ fn sent_damaged_and_received() {
         damage(&mut noise, s, &mut slots, &mut marks, beyond);
         let answer = received(s, &slots, &marks, &noise.bytes(room + 4));
         if beyond.is_none() {
-            assert!(
-                answer.is_ok_and(|f| f.payload == payload && f.sequence == sequence),
-                "{s:?}"
-            );
+            assert!(answer.is_ok_and(|f| f.payload == payload && f.sequence == sequence), "{s:?}");
         }
     }
     println!("1500 frames each way");
@@ -143,18 +111,11 @@ fn sent_damaged_and_received() {
 #[test]
 fn heard_in_turn() {
     let mut noise = Noise::new(53);
-    let s = Setting {
-        depth: 2,
-        n: 9,
-        r: 4,
-        b: 1,
-    };
+    let s = Setting { depth: 2, n: 9, r: 4, b: 1 };
     let (mut record, mut judge) = (Record::fresh(), plain_record::Record::default());
     let mut sequence = 65000u16;
     for _ in 0..20_000 {
-        sequence = sequence
-            .wrapping_add(noise.below(4) as u16)
-            .wrapping_sub((noise.below(8) == 0) as u16);
+        sequence = sequence.wrapping_add(noise.below(4) as u16).wrapping_sub((noise.below(8) == 0) as u16);
         let mut slots = plain::slots_of(plain(s), &plain::area_of(plain(s), &noise.bytes(3), sequence));
         let mut marks = vec![0; 18];
         let beyond = (noise.below(5) == 0).then_some(1);
@@ -162,10 +123,7 @@ fn heard_in_turn() {
         let (mut ours, mut theirs) = ([0; 10], [0; 10]);
         let answer = heard(s, &mut record, &slots, &marks, &mut ours);
         assert_eq!(answer, plain::receive(plain(s), &slots, &marks, &mut theirs));
-        judge.note(
-            answer.as_ref().err().map_or(0, |refused| refused.0),
-            answer.map_or(0, |frame| frame.sequence),
-        );
+        judge.note(answer.as_ref().err().map_or(0, |refused| refused.0), answer.map_or(0, |frame| frame.sequence));
         assert_eq!((record::plain(record), ours), (judge, theirs));
     }
     let least = judge.newer.min(judge.repeat).min(judge.older).min(judge.refused);
@@ -181,9 +139,7 @@ fn trailers() {
     for round in 0..1500 {
         let s = setting(&mut noise);
         let room = s.depth * (s.n - s.r) - 4;
-        let back = *[room, room + 1, 65535, 256, noise.below(room + 1)]
-            .get(round % 5)
-            .unwrap_or(&0);
+        let back = *[room, room + 1, 65535, 256, noise.below(room + 1)].get(round % 5).unwrap_or(&0);
         let mut area = vec![0; room + 4];
         area[room] = back as u8;
         area[room + 1] = (back >> 8) as u8;
@@ -201,41 +157,26 @@ fn trailers() {
         damage(&mut noise, s, &mut slots, &mut marks, None);
         refused += (received(s, &slots, &marks, &noise.bytes(room + 4)) == Err((5, 0))) as usize;
     }
-    assert!(
-        refused > 600,
-        "only {refused} trailers were refused: the test does not try what it says"
-    );
+    assert!(refused > 600, "only {refused} trailers were refused: the test does not try what it says");
     println!("1500 frames, {refused} refused 5");
+}
+
+/// Every limit from both sides, and A from 0 to 5.
+fn around_the_limits() -> Vec<Setting> {
+    let depths = [0, 1, 2, 3, 4, 16, 17, 258, usize::MAX];
+    let words = [(3, 2), (4, 2), (5, 2), (6, 2), (255, 16), (256, 16), (20, 17), (20, 1), (16, 16), (0, 0), (261, 2)];
+    let pairs = depths.iter().flat_map(|&depth| words.map(|word| (depth, word)));
+    pairs.flat_map(|(depth, (n, r))| [0, 1, 2, 256].map(|b| Setting { depth, n, r, b })).collect()
 }
 
 /// Limits, lengths, marks and payloads that are too long, and which comes first.
 #[test]
 fn refused() {
-    let mut count = 0;
-    for depth in [0, 1, 2, 3, 4, 16, 17, 258, usize::MAX] {
-        for (n, r) in [
-            (3, 2),
-            (4, 2),
-            (5, 2),
-            (6, 2),
-            (255, 16),
-            (256, 16),
-            (20, 17),
-            (20, 1),
-            (16, 16),
-            (0, 0),
-            (261, 2),
-        ] {
-            for b in [0, 1, 2, 256] {
-                let s = Setting { depth, n, r, b };
-                assert_eq!(s.is_allowed(), plain(s).is_allowed(), "{s:?}");
-                let area = depth.min(20) * n.saturating_sub(r);
-                lengths(s, depth.min(20) * n, area);
-                count += 1;
-            }
-        }
+    for s in around_the_limits() {
+        assert_eq!(s.is_allowed(), plain(s).is_allowed(), "{s:?}");
+        lengths(s, s.depth.min(20) * s.n, s.depth.min(20) * s.n.saturating_sub(s.r));
     }
-    println!("{count} settings");
+    println!("{} settings", around_the_limits().len());
 }
 
 fn lengths(s: Setting, slots: usize, area: usize) {
@@ -271,20 +212,9 @@ fn bad_marks() {
 /// The paper's example for the bench reader.
 #[test]
 fn example() {
-    let s = Setting {
-        depth: 2,
-        n: 5,
-        r: 2,
-        b: 0,
-    };
+    let s = Setting { depth: 2, n: 5, r: 2, b: 0 };
     let mut area = [9; 6];
     let frame = s.receive(&[0, 0, 0, 0, 1, 1, 217, 13, 153, 14], &[0; 10], &mut area);
-    let told = frame.map(|f| {
-        (
-            f.sequence,
-            f.payload,
-            f.words().iter().map(|w| (w.errors, w.bits)).collect(),
-        )
-    });
+    let told = frame.map(|f| (f.sequence, f.payload, f.words().iter().map(|w| (w.errors, w.bits)).collect()));
     assert_eq!(told, Ok((258, &[65][..], vec![(1, 2), (1, 1)])));
 }

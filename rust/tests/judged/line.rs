@@ -7,11 +7,7 @@ use yaxopetzo::word::Setting as Code;
 use yaxopetzo::Refusal;
 
 fn plain(s: Setting) -> plain::Setting {
-    plain::Setting {
-        branches: s.branches,
-        unit: s.unit,
-        n: s.n,
-    }
+    plain::Setting { branches: s.branches, unit: s.unit, n: s.n }
 }
 
 /// A setting within the limits; units are mostly small, so that positions come round.
@@ -20,9 +16,7 @@ fn setting(noise: &mut Noise) -> Setting {
         let branches = noise.between(2, 16);
         let n = branches * noise.between(1, 255 / branches);
         let least = n.div_ceil(branches);
-        let unit = *[least, 128, noise.between(least, 128)]
-            .get(noise.below(3))
-            .unwrap_or(&least);
+        let unit = *[least, 128, noise.between(least, 128)].get(noise.below(3)).unwrap_or(&least);
         let s = Setting { branches, unit, n };
         if plain(s).is_allowed() {
             return s;
@@ -71,11 +65,7 @@ fn received(noise: &mut Noise, s: Setting, bytes: &[u8], marks: &[u8]) -> Vec<(u
         assert_eq!(receiver.run(&mut run, &mut run_marks), Ok(()));
         out.extend(run.into_iter().zip(run_marks));
     }
-    let expected: Vec<(u8, u8)> = bytes
-        .iter()
-        .zip(marks)
-        .map(|(&byte, &mark)| queue.step(byte, mark))
-        .collect();
+    let expected: Vec<(u8, u8)> = bytes.iter().zip(marks).map(|(&byte, &mark)| queue.step(byte, mark)).collect();
     assert_eq!(out, expected, "{s:?}");
     out
 }
@@ -123,10 +113,7 @@ fn words_under_a_run_of_damage() {
         for (message, word) in messages.iter().zip(out.chunks_mut(204)) {
             let (mut word, marks): (Vec<u8>, Vec<u8>) = word.iter().copied().unzip();
             let answer = code.decode(&mut word, &marks);
-            assert!(
-                answer.is_ok_and(|figures| figures.errors <= 8 && figures.marked == 0),
-                "round {round}"
-            );
+            assert!(answer.is_ok_and(|figures| figures.errors <= 8 && figures.marked == 0), "round {round}");
             assert_eq!(word[..188], message[..]);
         }
     }
@@ -137,21 +124,10 @@ fn words_under_a_run_of_damage() {
 #[test]
 fn positions_come_round() {
     let mut noise = Noise::new(61);
-    for (branches, unit, n) in [
-        (2, 2, 4),
-        (2, 2, 4),
-        (3, 1, 3),
-        (3, 2, 6),
-        (4, 1, 4),
-        (5, 1, 5),
-        (6, 1, 6),
-        (2, 128, 256),
-    ] {
-        let s = Setting {
-            branches,
-            unit,
-            n: n.min(254),
-        };
+    for (branches, unit, n) in
+        [(2, 2, 4), (2, 2, 4), (3, 1, 3), (3, 2, 6), (4, 1, 4), (5, 1, 5), (6, 1, 6), (2, 128, 256)]
+    {
+        let s = Setting { branches, unit, n: n.min(254) };
         let bytes = noise.bytes(5000);
         let marks = noise.symbols(5000, 2);
         sent(&mut noise, s, &bytes);
@@ -175,11 +151,7 @@ fn tried(s: Setting, position: usize, size: usize, held_size: usize) {
     let (mut memory, mut held) = (vec![3; size], vec![1; held_size]);
     let expected = number(s, position, size, size);
     let mut sender = Sender::resume(s, position, &mut memory);
-    assert_eq!(
-        sender.step(9).map(|_| ()).map_err(Refusal::number),
-        expected,
-        "{s:?} {position}"
-    );
+    assert_eq!(sender.step(9).map(|_| ()).map_err(Refusal::number), expected, "{s:?} {position}");
     let moved = expected.map_or(position, |()| (position + 1) % plain(s).period());
     assert_eq!(sender.position(), moved);
     let mut run = [9, 8];
@@ -191,20 +163,13 @@ fn tried(s: Setting, position: usize, size: usize, held_size: usize) {
     let expected = number(s, position, size, held_size);
     let mut memory = vec![3; size];
     let mut receiver = Receiver::resume(s, position, &mut memory, &mut held);
-    assert_eq!(
-        receiver.step(9, 0).map(|_| ()).map_err(Refusal::number),
-        expected,
-        "{s:?} {position}"
-    );
+    assert_eq!(receiver.step(9, 0).map(|_| ()).map_err(Refusal::number), expected, "{s:?} {position}");
     let mut marks = [0, 1];
     let mut run = [9, 8];
     let mut receiver = Receiver::resume(s, position, &mut memory, &mut held);
     assert_eq!(receiver.run(&mut run, &mut marks).map_err(Refusal::number), expected);
     if expected.is_err() {
-        assert_eq!(
-            (memory, held, run, marks),
-            (vec![3; size], vec![1; held_size], [9, 8], [0, 1])
-        );
+        assert_eq!((memory, held, run, marks), (vec![3; size], vec![1; held_size], [9, 8], [0, 1]));
     }
 }
 
@@ -212,11 +177,7 @@ fn tried(s: Setting, position: usize, size: usize, held_size: usize) {
 fn made(s: Setting, size: usize, held_size: usize) {
     let (mut memory, mut held) = (vec![3; size], vec![4; held_size]);
     let expected = number(s, 0, size, size);
-    assert_eq!(
-        Sender::fresh(s, &mut memory).map(|_| ()).map_err(Refusal::number),
-        expected,
-        "{s:?}"
-    );
+    assert_eq!(Sender::fresh(s, &mut memory).map(|_| ()).map_err(Refusal::number), expected, "{s:?}");
     assert_eq!(memory, vec![if expected.is_ok() { 0 } else { 3 }; size]);
     let mut memory = vec![3; size];
     let expected = number(s, 0, size, held_size);
@@ -226,43 +187,38 @@ fn made(s: Setting, size: usize, held_size: usize) {
     assert_eq!((memory, held), (vec![left.0; size], vec![left.1; held_size]));
 }
 
+/// Every limit from both sides, and numbers of which only the low byte would do.
+fn around_the_limits() -> Vec<Setting> {
+    let branches = [0, 1, 2, 3, 12, 16, 17, 258, usize::MAX];
+    let units = [0, 1, 2, 17, 128, 129, 260, usize::MAX];
+    let sizes = [0, 2, 3, 4, 6, 12, 204, 216, 240, 255, 256, 258, usize::MAX];
+    let pairs = branches.iter().flat_map(|&branches| units.map(|unit| (branches, unit)));
+    pairs.flat_map(|(branches, unit)| sizes.map(|n| Setting { branches, unit, n })).collect()
+}
+
 #[test]
 fn limits_lengths_and_positions() {
-    let top = usize::MAX;
-    for branches in [0, 1, 2, 3, 12, 16, 17, 258, usize::MAX] {
-        for unit in [0, 1, 2, 17, 128, 129, 260, usize::MAX] {
-            for n in [0, 2, 3, 4, 6, 12, 204, 216, 240, 255, 256, 258, usize::MAX] {
-                let s = Setting { branches, unit, n };
-                let (small, period) = match plain(s).is_allowed() {
-                    true => (plain(s).memory(), plain(s).period()),
-                    false => (10, 10),
-                };
-                for position in [0, 1, period - 1, period, period + 1, 738017280, top] {
-                    tried(s, position, small, small);
-                }
-                for (x, y) in [
-                    (small, small),
-                    (small + 1, small),
-                    (small, small + 1),
-                    (0, small),
-                    (small, 0),
-                ] {
-                    tried(s, 0, x, y);
-                    made(s, x, y);
-                }
-            }
+    let mut stand = 0;
+    for s in around_the_limits() {
+        let allowed = plain(s).is_allowed();
+        stand += allowed as usize;
+        let (size, period) = if allowed { (plain(s).memory(), plain(s).period()) } else { (10, 10) };
+        for position in [0, 1, period - 1, period, period + 1, 738017280, usize::MAX] {
+            tried(s, position, size, size);
         }
+        for (x, y) in [(size, size), (size + 1, size), (size, size + 1), (0, size), (size, 0)] {
+            tried(s, 0, x, y);
+            made(s, x, y);
+        }
+        assert!(!allowed || s.memory() == size);
     }
+    println!("{} settings, {stand} of them allowed", around_the_limits().len());
 }
 
 /// A mark above 1 handed in or anywhere in the memory, and marks that are not as many as the bytes.
 #[test]
 fn bad_marks() {
-    let s = Setting {
-        branches: 3,
-        unit: 4,
-        n: 12,
-    };
+    let s = Setting { branches: 3, unit: 4, n: 12 };
     for place in 0..12 {
         let (mut memory, mut held) = ([5; 12], [0; 12]);
         held[place] = 2 + 20 * place as u8;

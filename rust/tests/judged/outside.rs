@@ -15,10 +15,7 @@ fn encoded<const K: usize, const N: usize>(r: usize, b: usize, m: usize, message
 #[test]
 fn check_polynomial_of_en_300_421() {
     let word: [u8; 17] = encoded(16, 0, 8, [1]);
-    assert_eq!(
-        word,
-        [1, 59, 13, 104, 189, 68, 209, 30, 8, 163, 65, 41, 229, 98, 50, 36, 59]
-    );
+    assert_eq!(word, [1, 59, 13, 104, 189, 68, 209, 30, 8, 163, 65, 41, 229, 98, 50, 36, 59]);
 }
 
 /// ISO 18004's table of check polynomials, as exponents of a; the codes of the square symbols have b = 0.
@@ -33,16 +30,7 @@ fn check_polynomials_of_iso_18004() {
     for exponents in tables {
         let r = exponents.len();
         let mut word = vec![0; r + 1];
-        assert_eq!(
-            Setting {
-                m: 8,
-                n: r + 1,
-                r,
-                b: 0
-            }
-            .encode(&[1], &mut word),
-            Ok(())
-        );
+        assert_eq!(Setting { m: 8, n: r + 1, r, b: 0 }.encode(&[1], &mut word), Ok(()));
         let power = |&i: &u32| (0..i).fold(1, |x, _| double(x)) as u8;
         let expected: Vec<u8> = exponents.iter().map(power).collect();
         assert_eq!(word[1..], expected);
@@ -65,14 +53,7 @@ fn sklar() {
     assert_eq!(word, [7, 3, 2, 5, 6, 4, 1]);
     let s = Setting { m: 3, n: 7, r: 4, b: 1 };
     let mut received = [7, 3, 5, 1, 6, 4, 1];
-    assert_eq!(
-        s.decode(&mut received, &[0; 7]),
-        Ok(Figures {
-            errors: 2,
-            marked: 0,
-            bits: 4
-        })
-    );
+    assert_eq!(s.decode(&mut received, &[0; 7]), Ok(Figures { errors: 2, marked: 0, bits: 4 }));
     assert_eq!(received, word);
 }
 
@@ -103,20 +84,13 @@ fn worked_slots() {
     assert_eq!(block::spread(2, 3, &[1, 3, 2, 2, 6, 4], &mut slots), Ok(()));
     assert_eq!(slots, [1, 2, 3, 6, 2, 4]);
 
-    let setting = line::Setting {
-        branches: 2,
-        unit: 2,
-        n: 4,
-    };
+    let setting = line::Setting { branches: 2, unit: 2, n: 4 };
     let (mut memory, mut other, mut held) = ([9; 2], [9; 2], [9; 2]);
     let mut bytes = [1, 2, 3, 4, 5, 6, 7, 8];
     let sent = line::Sender::fresh(setting, &mut memory).and_then(|mut sender| sender.run(&mut bytes));
     assert_eq!((sent, bytes), (Ok(()), [1, 0, 3, 0, 5, 2, 7, 4]));
     let mut marks = [0; 8];
     let fresh = line::Receiver::fresh(setting, &mut other, &mut held);
-    assert_eq!(
-        fresh.and_then(|mut receiver| receiver.run(&mut bytes, &mut marks)),
-        Ok(())
-    );
+    assert_eq!(fresh.and_then(|mut receiver| receiver.run(&mut bytes, &mut marks)), Ok(()));
     assert_eq!((bytes, marks), ([0, 0, 0, 0, 1, 2, 3, 4], [1, 0, 1, 0, 0, 0, 0, 0]));
 }

@@ -71,14 +71,7 @@ fn at_the_top() {
         let mut tally = || u32::MAX - noise.below(4) as u32;
         let (newer, repeat, older, refused) = (tally(), tally(), tally(), tally());
         let last = noise.below(65536) as u16;
-        let mut record = Record {
-            accepted: round % 4 > 0,
-            last,
-            newer,
-            repeat,
-            older,
-            refused,
-        };
+        let mut record = Record { accepted: round % 4 > 0, last, newer, repeat, older, refused };
         let mut judge = plain(record);
         for _ in 0..12 {
             let (number, next) = (noise.below(7) as u8, sequence(&mut noise, record.last));
@@ -91,11 +84,7 @@ fn at_the_top() {
 /// P13 of the worked table.
 #[test]
 fn worked() {
-    let after = |last| Record {
-        accepted: true,
-        last,
-        ..Record::fresh()
-    };
+    let after = |last| Record { accepted: true, last, ..Record::fresh() };
     assert_eq!(after(65535).standing(2), Standing::Newer);
     assert_eq!(after(0).standing(32767), Standing::Newer);
     assert_eq!(after(0).standing(32768), Standing::Older);

@@ -32,20 +32,8 @@ fn every_limit() {
 }
 
 fn some_settings() -> Vec<Setting> {
-    let sizes = [
-        (3, 7, 4),
-        (3, 3, 2),
-        (3, 5, 3),
-        (8, 204, 16),
-        (8, 32, 4),
-        (8, 255, 2),
-        (8, 3, 2),
-        (8, 17, 16),
-    ];
-    sizes
-        .iter()
-        .flat_map(|&(m, n, r)| [0, 1].map(|b| Setting { m, n, r, b }))
-        .collect()
+    let sizes = [(3, 7, 4), (3, 3, 2), (3, 5, 3), (8, 204, 16), (8, 32, 4), (8, 255, 2), (8, 3, 2), (8, 17, 16)];
+    sizes.iter().flat_map(|&(m, n, r)| [0, 1].map(|b| Setting { m, n, r, b })).collect()
 }
 
 /// Each buffer one too short, exact, one too long and empty, alone and together, with bad bytes in them.

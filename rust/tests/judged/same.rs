@@ -5,21 +5,12 @@ use yaxopetzo::{word::Setting, Figures, Refusal};
 
 /// The reference's form of a setting.
 pub fn plain(s: Setting) -> plain::Setting {
-    plain::Setting {
-        m: s.m,
-        n: s.n,
-        r: s.r,
-        b: s.b,
-    }
+    plain::Setting { m: s.m, n: s.n, r: s.r, b: s.b }
 }
 
 /// The reference's form of an answer's figures.
 pub fn counted(f: Figures) -> code::Figures {
-    code::Figures {
-        errors: f.errors.into(),
-        marked: f.marked.into(),
-        bits: f.bits.into(),
-    }
+    code::Figures { errors: f.errors.into(), marked: f.marked.into(), bits: f.bits.into() }
 }
 
 /// The reference's form of a word's answer.

@@ -27,9 +27,7 @@ fn marks_of(bits: usize, n: usize) -> Vec<u8> {
 
 fn settings(sizes: std::ops::RangeInclusive<usize>) -> Vec<Setting> {
     let pairs = sizes.flat_map(|n| (2..n).map(move |r| (n, r)));
-    pairs
-        .flat_map(|(n, r)| [0, 1].map(|b| Setting { m: 3, n, r, b }))
-        .collect()
+    pairs.flat_map(|(n, r)| [0, 1].map(|b| Setting { m: 3, n, r, b })).collect()
 }
 
 /// All words with all marks where n is 3 or 4.

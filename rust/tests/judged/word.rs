@@ -13,10 +13,7 @@ fn field(m: usize) -> usize {
 /// Every m, r and b with the corners of n and one n between.
 fn settings(noise: &mut Noise) -> Vec<Setting> {
     let mut all = Vec::new();
-    for (m, r, b) in [3, 8]
-        .iter()
-        .flat_map(|&m| (2..=16).flat_map(move |r| [(m, r, 0), (m, r, 1)]))
-    {
+    for (m, r, b) in [3, 8].iter().flat_map(|&m| (2..=16).flat_map(move |r| [(m, r, 0), (m, r, 1)])) {
         let top = field(m) - 1;
         if r >= top {
             continue;
@@ -91,10 +88,7 @@ fn decode_around_the_bound() {
                 let (answer, left) = decoded(s, &word, &marks);
                 if 2 * e + f <= s.r {
                     assert_eq!(left, sent, "{s:?} f {f} e {e}");
-                    assert!(
-                        answer.is_ok_and(|a| (a.errors, a.marked) == (e, f)),
-                        "{s:?} f {f} e {e}"
-                    );
+                    assert!(answer.is_ok_and(|a| (a.errors, a.marked) == (e, f)), "{s:?} f {f} e {e}");
                 }
                 let before = old(&mut noise, s.n - s.r);
                 assert_eq!(decoded_part(s, &word, &marks, &before), answer);
@@ -115,26 +109,14 @@ fn decode_what_was_never_sent() {
         let m = if round % 8 == 0 { 3 } else { 8 };
         let r = 2 + round % if m == 3 { 5 } else { 6 };
         let n = noise.between(r + 1, field(m) - 1);
-        let s = Setting {
-            m,
-            n,
-            r,
-            b: noise.below(2),
-        };
+        let s = Setting { m, n, r, b: noise.below(2) };
         let word = noise.symbols(n, field(m));
-        let count = if noise.below(2) == 0 {
-            0
-        } else {
-            noise.below(r + 2).min(n)
-        };
+        let count = if noise.below(2) == 0 { 0 } else { noise.below(r + 2).min(n) };
         let mut marks = vec![0; n];
         noise.places(n, count).iter().for_each(|&place| marks[place] = 1);
         taken += decoded(s, &word, &marks).0.is_ok() as usize;
     }
-    assert!(
-        taken > 10_000,
-        "only {taken} words were taken: the test does not try what it says"
-    );
+    assert!(taken > 10_000, "only {taken} words were taken: the test does not try what it says");
     println!("120000 words, {taken} of them taken");
 }
 
@@ -146,12 +128,7 @@ fn decode_just_beyond_the_bound() {
     for round in 0..40_000 {
         let r = 2 + round % 15;
         let n = *[r + 1, r + 3, 2 * r + 1, 32, 204, 255].get(round % 6).unwrap_or(&255);
-        let s = Setting {
-            m: 8,
-            n,
-            r,
-            b: round / 2 % 2,
-        };
+        let s = Setting { m: 8, n, r, b: round / 2 % 2 };
         if n <= r {
             continue;
         }
@@ -162,9 +139,6 @@ fn decode_just_beyond_the_bound() {
         let (word, marks) = damaged(&mut noise, s, &sent, f, e);
         refused += (decoded(s, &word, &marks).0 == Err(4)) as usize;
     }
-    assert!(
-        refused > 10_000,
-        "only {refused} words were refused: the test does not try what it says"
-    );
+    assert!(refused > 10_000, "only {refused} words were refused: the test does not try what it says");
     println!("80000 words, {refused} of them refused");
 }
