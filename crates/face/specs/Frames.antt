@@ -9,12 +9,14 @@ use Prim.Native.Nat.{ℕ, zero, suc, _+_, _-_, _≤_, _<_}
 use native.Mathlib.Decide.{decLe}
 use native.Mathlib.Omega.{arith}
 use lib.Dec.{eqb, leb}
-use lib.ListN.{length, take, drop}
+use lib.ListN.{length, take, drop, length-take, length-drop}
 use borrow.Author.Tests.{ne-eqb, le-leb, lt-leb}
 use Rattle.algebra.specs.Tests.{if_then_else_}
-use Rattle.frame.specs.Frame.{allowedFrame, sentNumber, sendOutcome, sent, numberOf, wordNumber, payloadIn, payloadOf, answered, received}
+use Rattle.frame.specs.Frame.{allowedFrame, sentNumber, sendOutcome, sent, numberOf, wordNumber, isDone, payloadIn, payloadOf, answered, received}
 use Rattle.frame.specs.declared.setting.Framing.{Framing}
 use Rattle.frame.specs.declared.setting.Received.{Received}
+use Rattle.frame.specs.declared.setting.Verdict.{Verdict}
+use Rattle.frame.specs.declared.setting.Verdict.the-variants.{Done, BadSetting, BadLength, BadMark, BeyondReach, BadTrailer}
 use Rattle.link.specs.Sending.{send-once}
 use Rattle.link.specs.Receiving.{receive-once}
 use Rattle.face.specs.Shown.{Shows, shown-once}
@@ -51,6 +53,36 @@ module _ (number size many : ℕ) where
   pub start-accepted : number ≡ 0 → (s : ℕ) → s ≡ size - 4 - many → s ≡ startOf number size many
   unfolding startOf
   start-accepted z s e = rw z e
+
+-- what an answer hands back is that part of the area: `length` bytes from `start` on
+module _ (back : ℕ) (area : List ℕ) where
+  abbrev handed : List ℕ
+  handed = payloadIn back area
+
+  place-in : handed ≡ take (length handed) (drop (length area - 4 - length handed) area)
+  unfolding payloadIn
+  place-in = elim (decLe (back + 4) (length area)) [
+    | yes l ↦
+        let e : length (take back (drop (length area - 4 - back) area)) ≡ back = length-take back _ ∙ rw (length-drop (length area - 4 - back) area) (omega arith) in
+        rw (le-leb (back + 4) (length area) l, e)
+    | no n ↦ rw (lt-leb (back + 4) (length area) (omega arith))
+  ]
+
+pub payload-place : (t : Received) (area : List ℕ) →
+    let r = frameSeen area t in
+    payloadOf t area ≡ take (r .length) (drop (r .start) area)
+unfolding payloadOf
+payload-place t area = by-verdict (t .verdict)
+  where
+    by-verdict : (v : Verdict) →
+        let p = if isDone v then payloadIn (t .back) area else [] in
+        p ≡ take (length p) (drop (startOf (numberOf v) (length area) (length p)) area)
+    by-verdict Done = place-in (t .back) area ∙ ap (λ (s : ℕ). take (length (payloadIn (t .back) area)) (drop s area)) (start-accepted 0 (length area) _ refl _ refl)
+    by-verdict BadSetting = refl
+    by-verdict BadLength = refl
+    by-verdict BadMark = refl
+    by-verdict (BeyondReach w) = refl
+    by-verdict BadTrailer = refl
 
 -- ---- no second answer: of each call's answer, and of what it leaves in the lent slots or area
 

@@ -20,12 +20,8 @@ use interleave::send_step;
 pub extern "C" fn yaxo_line_fresh_sender(line: LineSetting, memory: &mut [u8]) -> LineReady
     ensures { λ r. ⌜ Shows readySeen (λ t. FreshSender (line .branches) (line .unit) (line .n) (now (memory .entry)) t (now (memory .exit))) r ⌝ }
 {
-    let t = fresh_sender(
-        line.branches as usize,
-        line.unit as usize,
-        line.n as usize,
-        memory,
-    );
+    let s = line_of(line, 0);
+    let t = fresh_sender(s.branches, s.unit, s.n, memory);
     line_ready(t)
 }
 
@@ -38,13 +34,8 @@ pub extern "C" fn yaxo_line_fresh_receiver(
 ) -> LineReady
     ensures { λ r. ⌜ Shows readySeen (λ t. FreshReceiver (line .branches) (line .unit) (line .n) (now (memory .entry)) (now (held .entry)) t (now (memory .exit)) (now (held .exit))) r ⌝ }
 {
-    let t = fresh_receiver(
-        line.branches as usize,
-        line.unit as usize,
-        line.n as usize,
-        memory,
-        held,
-    );
+    let s = line_of(line, 0);
+    let t = fresh_receiver(s.branches, s.unit, s.n, memory, held);
     line_ready(t)
 }
 
