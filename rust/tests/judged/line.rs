@@ -24,24 +24,35 @@ fn setting(noise: &mut Noise) -> Setting {
     }
 }
 
-/// The same bytes through both senders, cut up by chance; gives what left.
+/// How many bytes the next call takes: 0 stands for a step, else a run.
+fn cut(noise: &mut Noise, left: usize) -> usize {
+    let run = noise.below(60).min(left);
+    if noise.below(2) == 0 {
+        0
+    } else {
+        run
+    }
+}
+
+/// The same bytes through both senders, cut up by chance, ours put away and taken up again before each call.
 fn sent(noise: &mut Noise, s: Setting, bytes: &[u8]) -> Vec<u8> {
     let mut memory = noise.bytes(plain(s).memory());
-    let mut sender = Sender::fresh(s, &mut memory).expect("within the limits");
-    let mut queue = plain::Sender::fresh(plain(s));
+    let mut position = Sender::fresh(s, &mut memory).expect("within the limits").position();
     let mut out = Vec::new();
     while out.len() < bytes.len() {
         let rest = &bytes[out.len()..];
-        let mut run = rest[..noise.below(60).min(rest.len())].to_vec();
+        let mut sender = Sender::resume(s, position, &mut memory);
+        let mut run = rest[..cut(noise, rest.len())].to_vec();
         if run.is_empty() {
-            run = rest[..1].to_vec();
-            run[0] = sender.step(run[0]).expect("a step");
+            run.push(sender.step(rest[0]).expect("a step"));
         } else {
             assert_eq!(sender.run(&mut run), Ok(()));
         }
         out.extend(run);
-        assert_eq!(sender.position(), out.len() % plain(s).period());
+        position = sender.position();
+        assert_eq!(position, out.len() % plain(s).period());
     }
+    let mut queue = plain::Sender::fresh(plain(s));
     let expected: Vec<u8> = bytes.iter().map(|&byte| queue.step(byte)).collect();
     assert_eq!(out, expected, "{s:?}");
     out
@@ -51,20 +62,23 @@ fn sent(noise: &mut Noise, s: Setting, bytes: &[u8]) -> Vec<u8> {
 fn received(noise: &mut Noise, s: Setting, bytes: &[u8], marks: &[u8]) -> Vec<(u8, u8)> {
     let size = plain(s).memory();
     let (mut memory, mut held) = (noise.bytes(size), noise.bytes(size));
-    let mut receiver = Receiver::fresh(s, &mut memory, &mut held).expect("within the limits");
-    let mut queue = plain::Receiver::fresh(plain(s));
+    let mut position = Receiver::fresh(s, &mut memory, &mut held).expect("within the limits").position();
     let mut out = Vec::new();
     while out.len() < bytes.len() {
         let at = out.len();
-        let size = noise.below(60).min(bytes.len() - at);
-        if size == 0 {
+        let end = at + cut(noise, bytes.len() - at);
+        let (mut run, mut run_marks) = (bytes[at..end].to_vec(), marks[at..end].to_vec());
+        let mut receiver = Receiver::resume(s, position, &mut memory, &mut held);
+        if run.is_empty() {
             out.push(receiver.step(bytes[at], marks[at]).expect("a step"));
-            continue;
+        } else {
+            assert_eq!(receiver.run(&mut run, &mut run_marks), Ok(()));
+            out.extend(run.into_iter().zip(run_marks));
         }
-        let (mut run, mut run_marks) = (bytes[at..at + size].to_vec(), marks[at..at + size].to_vec());
-        assert_eq!(receiver.run(&mut run, &mut run_marks), Ok(()));
-        out.extend(run.into_iter().zip(run_marks));
+        position = receiver.position();
+        assert_eq!(position, out.len() % plain(s).period());
     }
+    let mut queue = plain::Receiver::fresh(plain(s));
     let expected: Vec<(u8, u8)> = bytes.iter().zip(marks).map(|(&byte, &mark)| queue.step(byte, mark)).collect();
     assert_eq!(out, expected, "{s:?}");
     out
@@ -124,9 +138,7 @@ fn words_under_a_run_of_damage() {
 #[test]
 fn positions_come_round() {
     let mut noise = Noise::new(61);
-    for (branches, unit, n) in
-        [(2, 2, 4), (2, 2, 4), (3, 1, 3), (3, 2, 6), (4, 1, 4), (5, 1, 5), (6, 1, 6), (2, 128, 256)]
-    {
+    for (branches, unit, n) in [(2, 2, 4), (3, 1, 3), (3, 2, 6), (4, 1, 4), (5, 1, 5), (6, 1, 6), (2, 128, 256)] {
         let s = Setting { branches, unit, n: n.min(254) };
         let bytes = noise.bytes(5000);
         let marks = noise.symbols(5000, 2);
