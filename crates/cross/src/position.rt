@@ -3,7 +3,8 @@ ghost use mathlib.Core.Path.{_≡_};
 ghost use Prim.Native.Nat.{_+_, _<_, _≤_};
 ghost use Rattle.cross.specs.Cross.{cycle, after};
 
-// The number a call answers, and the position for the next call.
+// The number a call answers, and the position for the next call. It goes to C as it is.
+#[repr(C)]
 pub struct Ready {
     pub answer: u8,
     pub position: usize,

@@ -18,6 +18,8 @@ use rings::marks_fit;
 use word::Figures;
 
 // The number a frame answers, e, f and bits of its outer word (0 under any other answer), and the position for the next frame.
+// It goes to C as it is.
+#[repr(C)]
 pub struct Received {
     pub answer: u8,
     pub figures: Figures,

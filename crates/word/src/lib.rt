@@ -26,7 +26,8 @@ pub struct Setting {
     pub b: usize,
 }
 
-// What an accepted word was found to have: unmarked wrong symbols, marked ones, and changed bits.
+// What an accepted word was found to have: unmarked wrong symbols, marked ones, and changed bits. It goes to C as it is.
+#[repr(C)]
 pub struct Figures {
     pub errors: u16,
     pub marked: u16,

@@ -1,0 +1,55 @@
+// The word code for C.
+ghost use mathlib.Core.Path.{_≡_};
+ghost use Rattle.word.specs.Setting.{allowed};
+ghost use Rattle.word.specs.Answers.{outcome, encodeOutcome, encodedNumber, encodes, decoded, decodedPart};
+ghost use Rattle.face.specs.Shown.{Shows};
+ghost use Rattle.face.specs.Words.{codeOf, decodedSeen};
+use answers::encoded_number;
+use face::words::CodeSetting;
+use face::words::WordAnswer;
+use face::words::code_of;
+use face::words::word_answer;
+use word::decode;
+use word::decode_part;
+use word::encode;
+use word::is_allowed;
+
+// Whether a code keeps the limits.
+#[no_mangle]
+pub extern "C" fn yaxo_word_is_allowed(code: CodeSetting) -> bool
+    ensures { λ r. ⌜ r ≡ allowed (codeOf code) ⌝ }
+{
+    is_allowed(code_of(code))
+}
+
+// Encodes k message symbols to a word of n. Answers 0, 1, 2 or 3; refused, the word stays as it was.
+#[no_mangle]
+pub extern "C" fn yaxo_word_encode(code: CodeSetting, message: &[u8], word: &mut [u8]) -> u8
+    ensures { λ r. ⌜ Shows encodedNumber (λ d. encodeOutcome d (now (word .exit)) ≡ encodes (codeOf code) (now (message .entry)) (now (word .entry))) r ⌝ }
+{
+    let d = encode(code_of(code), message, word);
+    encoded_number(d)
+}
+
+// Corrects a word where it stands. Answers 0 to 4; refused, the word stays as received.
+#[no_mangle]
+pub extern "C" fn yaxo_word_decode(code: CodeSetting, word: &mut [u8], marks: &[u8]) -> WordAnswer
+    ensures { λ r. ⌜ Shows decodedSeen (λ d. outcome d (now (word .exit)) ≡ decoded (codeOf code) (now (marks .entry)) (now (word .entry))) r ⌝ }
+{
+    let d = decode(code_of(code), word, marks);
+    word_answer(d)
+}
+
+// The same with the received word only read: its k message symbols go to the part. Refused, the part stays as it was.
+#[no_mangle]
+pub extern "C" fn yaxo_word_decode_part(
+    code: CodeSetting,
+    received: &[u8],
+    marks: &[u8],
+    part: &mut [u8],
+) -> WordAnswer
+    ensures { λ r. ⌜ Shows decodedSeen (λ d. outcome d (now (part .exit)) ≡ decodedPart (codeOf code) (now (marks .entry)) (now (received .entry)) (now (part .entry))) r ⌝ }
+{
+    let d = decode_part(code_of(code), received, marks, part);
+    word_answer(d)
+}

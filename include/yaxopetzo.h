@@ -1,0 +1,347 @@
+/*
+ * Yaxopetzo: Reed-Solomon words, interleavers, position frames and the cross line, for C99 and C++.
+ *
+ * Link with libradio.a, which `rt staticlib radio` writes for x86-64. Every call is proved: it answers one of the numbers
+ * below for every input, it reads and writes nothing but the buffers that are lent to it, it keeps nothing between two
+ * calls, it takes no memory of its own but the stack, and it ends. Two threads may call at once with buffers of their own.
+ *
+ * What a caller owes, since no call can test it:
+ *   - a pointer with a length of L points to L bytes (an empty buffer's pointer may be NULL);
+ *   - a buffer that a call writes overlaps no other buffer of the same call.
+ *
+ * What is not a buffer's content goes by value. A buffer that is not `const` is written only where the call says so.
+ */
+#ifndef YAXOPETZO_H
+#define YAXOPETZO_H
+
+#include <stdbool.h>
+#include <stddef.h>
+#include <stdint.h>
+
+#ifdef __cplusplus
+extern "C" {
+#endif
+
+/*
+ * The numbers that a call answers, checked in the order 1, 2, 3, 6, 4, 5; on the cross line 7 comes before 4.
+ * Under 1, 2, 3 and 6 every lent buffer and record stays as it was. What 4, 5 and 7 leave stands at each call.
+ * Under any answer but 0 the returned figures, sequence number, byte and mark are 0.
+ */
+#define YAXO_DONE 0         /* the result is there */
+#define YAXO_SETTING 1      /* a limit of the setting is broken, or no number of steps reaches the position */
+#define YAXO_LENGTH 2       /* a buffer has not the length that the setting asks for */
+#define YAXO_SYMBOL 3       /* a symbol is 2^m or more, or a mark is above 1 */
+#define YAXO_BEYOND_REACH 4 /* no codeword has 2e + f <= r */
+#define YAXO_TRAILER 5      /* a frame's trailer points outside its area, or a byte before the payload is not 0 */
+#define YAXO_PAYLOAD 6      /* the payload to be sent is longer than the area less its trailer */
+#define YAXO_NOT_YET 7      /* the cross line's first 108 frames: its first message is still under way */
+
+/* The largest buffers: 255 symbols a word; 16 words a frame, so 4080 slots, and an area of at most 16 * 253 bytes. */
+#define YAXO_WORD_MOST 255
+#define YAXO_DEPTH_MOST 16
+#define YAXO_SLOTS_MOST 4080
+#define YAXO_AREA_MOST 4048
+#define YAXO_TRAILER_BYTES 4
+
+/* What an accepted word was found to have. */
+typedef struct yaxo_figures {
+    uint16_t errors; /* e: unmarked symbols that were wrong */
+    uint16_t marked; /* f: marks, whether the symbol was wrong or not */
+    uint16_t bits;   /* bits that were changed, in marked symbols too */
+} yaxo_figures;
+
+/* ---- Words ------------------------------------------------------------------------------------------------------- */
+
+/*
+ * A word code. EN 300 421 is { 8, 204, 16, 0 }; Sklar's example is { 3, 7, 4, 1 }.
+ * A word of n symbols is k = n - r message symbols and then r check symbols. A byte of a buffer holds one symbol.
+ */
+typedef struct yaxo_code {
+    uint32_t m; /* bits a symbol: 3 or 8 */
+    uint32_t n; /* symbols a word: r + 1 to 2^m - 1 */
+    uint32_t r; /* check symbols: 2 to 16 */
+    uint32_t b; /* the power of the element 2 at which the code's zeros start: 0 or 1 */
+} yaxo_code;
+
+typedef struct yaxo_decoded {
+    uint8_t answer;
+    yaxo_figures figures; /* 0 unless the answer is 0 */
+} yaxo_decoded;
+
+/* Whether the code keeps the limits above; one that does not is answered 1 by every call. */
+bool yaxo_word_is_allowed(yaxo_code code);
+
+/*
+ * Encodes. message: k symbols, read. word: n symbols, written: the message and its check symbols.
+ * Answers 0; 1 for the code; 2 for either length; 3 for a message symbol of 2^m or more. Refused, the word stays.
+ */
+uint8_t yaxo_word_encode(yaxo_code code,
+                         const uint8_t *message, size_t message_length,
+                         uint8_t *word, size_t word_length);
+
+/*
+ * Decodes where the word stands, to the one codeword with 2e + f <= r.
+ * word: n symbols as received, corrected. marks: n marks, read; 1 where the receiver distrusts the symbol, else 0.
+ * Answers 0 with e, f and bits; 1 for the code; 2 for either length; 3 for a symbol of 2^m or more or a mark above 1;
+ * 4 where no codeword is near enough. Refused, the word stays as received.
+ */
+yaxo_decoded yaxo_word_decode(yaxo_code code,
+                              uint8_t *word, size_t word_length,
+                              const uint8_t *marks, size_t marks_length);
+
+/*
+ * The same with the received word only read. part: k symbols, written: the message of the corrected word.
+ * Answers as yaxo_word_decode does, and 2 also for a part that has not k symbols. Refused, the part stays, under 4 too.
+ */
+yaxo_decoded yaxo_word_decode_part(yaxo_code code,
+                                   const uint8_t *received, size_t received_length,
+                                   const uint8_t *marks, size_t marks_length,
+                                   uint8_t *part, size_t part_length);
+
+/* ---- Block interleaver ------------------------------------------------------------------------------------------- */
+
+/*
+ * Spreads `depth` words of n bytes, which lie end to end, over the slots: byte i of word w goes to slot i * depth + w.
+ * depth is 1 to 16, n is 3 to 255, and both buffers have depth * n bytes; the words are read, the slots written.
+ * Answers 0; 1 for depth or n; 2 for either length. Refused, the slots stay.
+ */
+uint8_t yaxo_block_spread(size_t depth, size_t n,
+                          const uint8_t *words, size_t words_length,
+                          uint8_t *slots, size_t slots_length);
+
+/* The way back: the slots are read, the words written. Answers as yaxo_block_spread does. */
+uint8_t yaxo_block_gather(size_t depth, size_t n,
+                          const uint8_t *slots, size_t slots_length,
+                          uint8_t *words, size_t words_length);
+
+/* ---- Delay line -------------------------------------------------------------------------------------------------- */
+
+/* A delay line's setting. EN 300 421 is { 12, 17, 204 }, with memories of 1122 bytes. */
+typedef struct yaxo_line {
+    uint32_t branches; /* I: 2 to 16, and it divides n */
+    uint32_t unit;     /* M: 1 to 128, and M * I is at least n */
+    uint32_t n;        /* bytes a word: 3 to 255 */
+} yaxo_line;
+
+/* The bytes of a line's memory: M * I * (I - 1) / 2. A receiver has a second memory as long for its marks. */
+#define YAXO_LINE_MEMORY(branches, unit) ((size_t)(unit) * (branches) * ((branches) - 1) / 2)
+#define YAXO_LINE_MEMORY_MOST 15360
+
+/*
+ * What a call on a line answers, and the position for the next call. The position is the caller's to keep, beside the
+ * memory. Under a refusal it is the one that was handed in, so that it may be stored without a test.
+ */
+typedef struct yaxo_ready {
+    uint8_t answer;
+    size_t position;
+} yaxo_ready;
+
+typedef struct yaxo_line_sent {
+    uint8_t answer;
+    uint8_t byte; /* what leaves at this step; 0 under a refusal */
+    size_t position;
+} yaxo_line_sent;
+
+typedef struct yaxo_line_received {
+    uint8_t answer;
+    uint8_t byte; /* what leaves at this step, and its mark; 0 under a refusal */
+    uint8_t mark;
+    size_t position;
+} yaxo_line_received;
+
+/* Makes a fresh sender: the memory is filled with zeros, and the position is 0. Answers 0; 1 for the setting; 2 for the
+ * memory's length. Refused, the memory stays. What it held before is not looked at. */
+yaxo_ready yaxo_line_fresh_sender(yaxo_line line, uint8_t *memory, size_t memory_length);
+
+/* Makes a fresh receiver: `memory` is filled with zeros and `held`, its marks, with ones. Answers as above. */
+yaxo_ready yaxo_line_fresh_receiver(yaxo_line line,
+                                    uint8_t *memory, size_t memory_length,
+                                    uint8_t *held, size_t held_length);
+
+/*
+ * One step of a sender: a byte goes in, and the byte that is due comes out (0 for the line's first ones).
+ * Answers 0; 1 for the setting or a position that no number of steps reaches; 2 for the memory's length. Refused, the
+ * memory stays.
+ */
+yaxo_line_sent yaxo_line_send_step(yaxo_line line, size_t position,
+                                   uint8_t *memory, size_t memory_length,
+                                   uint8_t byte);
+
+/* A step for each of the bytes, in order: what leaves at a step takes the place of what went in. Any number of bytes,
+ * also none. Answers as a step does, and a refusal leaves memory and bytes as they were. */
+yaxo_ready yaxo_line_send_run(yaxo_line line, size_t position,
+                              uint8_t *memory, size_t memory_length,
+                              uint8_t *bytes, size_t bytes_length);
+
+/*
+ * One step of a receiver: a byte and its mark go in, and those that are due come out (0 marked 1 for the first ones).
+ * Answers 0; 1 for the setting or the position; 2 for a memory's length; 3 for a mark above 1, handed in or in `held`.
+ * Refused, both memories stay.
+ */
+yaxo_line_received yaxo_line_receive_step(yaxo_line line, size_t position,
+                                          uint8_t *memory, size_t memory_length,
+                                          uint8_t *held, size_t held_length,
+                                          uint8_t byte, uint8_t mark);
+
+/* A step for each of the bytes with its mark, both in place. Answers as a step does, and 2 also where bytes and marks are
+ * not equally many. It is all or nothing: refused, the memories, the bytes and the marks stay as they were. */
+yaxo_ready yaxo_line_receive_run(yaxo_line line, size_t position,
+                                 uint8_t *memory, size_t memory_length,
+                                 uint8_t *held, size_t held_length,
+                                 uint8_t *bytes, size_t bytes_length,
+                                 uint8_t *marks, size_t marks_length);
+
+/* ---- Frames ------------------------------------------------------------------------------------------------------ */
+
+/*
+ * A frame's setting: `depth` words of n bytes with r check bytes each, in n * depth slots. Its message area has
+ * A = depth * (n - r) bytes: zeros, the payload, and a trailer of 4 bytes with the payload's length and the sequence
+ * number. A is at least 4, depth is 1 to 16, and n, r and b keep the limits of a word code with m = 8.
+ */
+typedef struct yaxo_framing {
+    uint32_t depth;
+    uint32_t n;
+    uint32_t r;
+    uint32_t b;
+} yaxo_framing;
+
+/* The slots of a frame, and the bytes of its area. */
+#define YAXO_FRAME_SLOTS(depth, n) ((size_t)(n) * (depth))
+#define YAXO_FRAME_AREA(depth, n, r) ((size_t)(depth) * ((n) - (r)))
+
+/* What receiving answers. The payload is the part area[start] .. area[start + length - 1] of the lent area itself. */
+typedef struct yaxo_received {
+    uint8_t answer;
+    uint8_t word;             /* the first word beyond reach where the answer is 4, else 0 */
+    uint16_t sequence;        /* 0 unless the answer is 0, as are all that follow */
+    size_t start;
+    size_t length;            /* the payload may be empty: only the answer tells that a frame was accepted */
+    yaxo_figures figures[16]; /* of each word; 0 for words that the frame does not have */
+} yaxo_received;
+
+/* Whether the setting keeps the limits above; one that does not is answered 1 by every call. */
+bool yaxo_frame_is_allowed(yaxo_framing framing);
+
+/*
+ * Sends a payload of at most A - 4 bytes with its sequence number. payload: read. slots: n * depth bytes, written.
+ * Answers 0; 1 for the setting; 2 for the slots' length; 6 for a payload that is too long. Refused, the slots stay.
+ */
+uint8_t yaxo_frame_send(yaxo_framing framing,
+                        const uint8_t *payload, size_t payload_length,
+                        uint16_t sequence,
+                        uint8_t *slots, size_t slots_length);
+
+/*
+ * Receives a frame. slots: n * depth bytes, and marks: a mark (0 or 1) for each; both only read. area: A bytes, written.
+ * Answers 0, and the area holds the frame's area; 1 for the setting; 2 for a length; 3 for a mark above 1, and the area
+ * stays; 4 where a word is beyond reach, with its number, and 5 for the trailer, and the area is zeros.
+ */
+yaxo_received yaxo_frame_receive(yaxo_framing framing,
+                                 const uint8_t *slots, size_t slots_length,
+                                 const uint8_t *marks, size_t marks_length,
+                                 uint8_t *area, size_t area_length);
+
+/* ---- The receiver's record --------------------------------------------------------------------------------------- */
+
+/*
+ * What a receiver has heard. Make it with yaxo_record_fresh and lend it to every call that receives.
+ * `accepted` is 0 until a frame was accepted. Any other value means that one was, and stays as it is.
+ * A count at 4294967295 stays there.
+ */
+typedef struct yaxo_record {
+    uint8_t accepted;
+    uint16_t last;    /* the newest sequence number */
+    uint32_t newer;   /* accepted frames that were newer than all before, that repeated the newest, and that were older */
+    uint32_t repeat;
+    uint32_t older;
+    uint32_t refused; /* frames that were answered 4 or 5 */
+} yaxo_record;
+
+/* How a sequence number stands to the newest one: ahead of it by 1 to 32767, the same, or the rest; numbers go round at
+ * 65536. The first accepted frame is newer. */
+#define YAXO_NEWER 0
+#define YAXO_REPEAT 1
+#define YAXO_OLDER 2
+
+/* A record that has accepted nothing; all its numbers are 0. */
+yaxo_record yaxo_record_fresh(void);
+
+/* The standing of a sequence number, YAXO_NEWER, YAXO_REPEAT or YAXO_OLDER, to a record's `accepted` and `last`. Ask it
+ * before the frame is noted: afterwards the newest frame is its own repeat. */
+uint8_t yaxo_record_standing(uint8_t accepted, uint16_t last, uint16_t sequence);
+
+/*
+ * Notes what a frame was answered: 0 counts it as newer, repeat or older, and only newer moves `last`; 4 and 5 count it as
+ * refused; every other number leaves the record as it was. yaxo_record_note gives the record after it,
+ * yaxo_record_note_in updates the lent one. yaxo_hear and yaxo_hear_in do it themselves.
+ */
+yaxo_record yaxo_record_note(yaxo_record before, uint8_t answer, uint16_t sequence);
+void yaxo_record_note_in(yaxo_record *record, uint8_t answer, uint16_t sequence);
+
+/* The record after a frame, and what the frame was answered. */
+typedef struct yaxo_heard {
+    yaxo_record next;
+    yaxo_received answer;
+} yaxo_heard;
+
+/* The receiver's whole call: yaxo_frame_receive, and its answer noted in the record. yaxo_hear gives the record after it,
+ * yaxo_hear_in updates the lent one. */
+yaxo_heard yaxo_hear(yaxo_record before, yaxo_framing framing,
+                     const uint8_t *slots, size_t slots_length,
+                     const uint8_t *marks, size_t marks_length,
+                     uint8_t *area, size_t area_length);
+yaxo_received yaxo_hear_in(yaxo_record *record, yaxo_framing framing,
+                           const uint8_t *slots, size_t slots_length,
+                           const uint8_t *marks, size_t marks_length,
+                           uint8_t *area, size_t area_length);
+
+/* ---- Cross line -------------------------------------------------------------------------------------------------- */
+
+/*
+ * The compact disc's two codes: 24 message bytes a frame, sent as 32, and spread over 109 frames. A message comes out of
+ * the receiver 108 frames after it went into the sender. Positions are the caller's to keep, as on the delay line.
+ */
+#define YAXO_CROSS_MESSAGE 24
+#define YAXO_CROSS_WORD 32
+#define YAXO_CROSS_MEMORY 1512
+#define YAXO_CROSS_DELAY 108
+
+typedef struct yaxo_cross_received {
+    uint8_t answer;
+    yaxo_figures figures; /* of the outer word; 0 unless the answer is 0 */
+    size_t position;
+} yaxo_cross_received;
+
+/* Makes a fresh sender: a memory of 1512 zeros, and position 0. Answers 0, or 2 for the length, and the memory stays. */
+yaxo_ready yaxo_cross_fresh_sender(uint8_t *memory, size_t memory_length);
+
+/* Makes a fresh receiver: 1512 zeros in `memory` and 1512 ones in `held`, its marks. Answers as above. */
+yaxo_ready yaxo_cross_fresh_receiver(uint8_t *memory, size_t memory_length,
+                                     uint8_t *held, size_t held_length);
+
+/*
+ * Sends a frame. message: 24 bytes, read. word: 32 bytes, written.
+ * Answers 0; 1 for a position that no number of frames reaches; 2 for a length. Refused, memory and word stay.
+ */
+yaxo_ready yaxo_cross_send(size_t position,
+                           uint8_t *memory, size_t memory_length,
+                           const uint8_t *message, size_t message_length,
+                           uint8_t *word, size_t word_length);
+
+/*
+ * Receives a frame. word: 32 bytes, read. message: 24 bytes, written with the message of 108 frames before.
+ * Answers 0 with the outer word's figures. 7 for the first 108 frames: the line has taken the frame, and the message bytes
+ * stay. 4 where the outer word is beyond reach: the line has taken the frame, and the message bytes are zeros.
+ * 1 for a position that no number of frames reaches, 2 for a length, 3 for a mark above 1 in `held`: all stays.
+ */
+yaxo_cross_received yaxo_cross_receive(size_t position,
+                                       uint8_t *memory, size_t memory_length,
+                                       uint8_t *held, size_t held_length,
+                                       const uint8_t *word, size_t word_length,
+                                       uint8_t *message, size_t message_length);
+
+#ifdef __cplusplus
+}
+#endif
+
+#endif

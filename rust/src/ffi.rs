@@ -1,0 +1,180 @@
+//! The library's C face, `include/yaxopetzo.h`, and the only unsafe code of this crate.
+//!
+//! Each call below is sound for one reason. The library is proved to read and write nothing but the buffers that it is
+//! lent, and it asks nothing of its caller but what slices give: a pointer to as many bytes as the length says, and for a
+//! buffer that is written, no overlap with another one of the call, which `&mut` rules out. An empty slice's pointer is
+//! never read. What crosses by value has the header's layout by `#[repr(C)]`; any bits of it are a valid value, but for
+//! the `bool` that two calls give, which is C's.
+#![deny(unsafe_op_in_unsafe_fn)]
+
+mod header;
+
+pub use header::{
+    Code, CrossReceived, Decoded, Figures, Framing, Line, LineReceived, LineSent, Ready, Received, Record,
+};
+
+pub fn word_is_allowed(code: Code) -> bool {
+    // Sound: numbers alone cross.
+    unsafe { header::yaxo_word_is_allowed(code) }
+}
+
+pub fn word_encode(code: Code, message: &[u8], word: &mut [u8]) -> u8 {
+    // Sound: two slices, of which the written one overlaps nothing.
+    unsafe { header::yaxo_word_encode(code, message.as_ptr(), message.len(), word.as_mut_ptr(), word.len()) }
+}
+
+pub fn word_decode(code: Code, word: &mut [u8], marks: &[u8]) -> Decoded {
+    // Sound: two slices, of which the written one overlaps nothing.
+    unsafe { header::yaxo_word_decode(code, word.as_mut_ptr(), word.len(), marks.as_ptr(), marks.len()) }
+}
+
+pub fn word_decode_part(code: Code, received: &[u8], marks: &[u8], part: &mut [u8]) -> Decoded {
+    let (word, n) = (received.as_ptr(), received.len());
+    // Sound: three slices, of which the written one overlaps nothing; the two that are read may be one.
+    unsafe { header::yaxo_word_decode_part(code, word, n, marks.as_ptr(), marks.len(), part.as_mut_ptr(), part.len()) }
+}
+
+pub fn block_spread(depth: usize, n: usize, words: &[u8], slots: &mut [u8]) -> u8 {
+    // Sound: two slices, of which the written one overlaps nothing.
+    unsafe { header::yaxo_block_spread(depth, n, words.as_ptr(), words.len(), slots.as_mut_ptr(), slots.len()) }
+}
+
+pub fn block_gather(depth: usize, n: usize, slots: &[u8], words: &mut [u8]) -> u8 {
+    // Sound: two slices, of which the written one overlaps nothing.
+    unsafe { header::yaxo_block_gather(depth, n, slots.as_ptr(), slots.len(), words.as_mut_ptr(), words.len()) }
+}
+
+pub fn line_fresh_sender(line: Line, memory: &mut [u8]) -> Ready {
+    // Sound: one slice.
+    unsafe { header::yaxo_line_fresh_sender(line, memory.as_mut_ptr(), memory.len()) }
+}
+
+pub fn line_fresh_receiver(line: Line, memory: &mut [u8], held: &mut [u8]) -> Ready {
+    // Sound: two slices that do not overlap.
+    unsafe { header::yaxo_line_fresh_receiver(line, memory.as_mut_ptr(), memory.len(), held.as_mut_ptr(), held.len()) }
+}
+
+pub fn line_send_step(line: Line, position: usize, memory: &mut [u8], byte: u8) -> LineSent {
+    // Sound: one slice.
+    unsafe { header::yaxo_line_send_step(line, position, memory.as_mut_ptr(), memory.len(), byte) }
+}
+
+pub fn line_send_run(line: Line, position: usize, memory: &mut [u8], bytes: &mut [u8]) -> Ready {
+    let (rings, size) = (memory.as_mut_ptr(), memory.len());
+    // Sound: two slices that do not overlap.
+    unsafe { header::yaxo_line_send_run(line, position, rings, size, bytes.as_mut_ptr(), bytes.len()) }
+}
+
+pub fn line_receive_step(
+    line: Line,
+    position: usize,
+    memory: &mut [u8],
+    held: &mut [u8],
+    byte: u8,
+    mark: u8,
+) -> LineReceived {
+    let (rings, size) = (memory.as_mut_ptr(), memory.len());
+    // Sound: two slices that do not overlap.
+    unsafe { header::yaxo_line_receive_step(line, position, rings, size, held.as_mut_ptr(), held.len(), byte, mark) }
+}
+
+pub fn line_receive_run(
+    line: Line,
+    position: usize,
+    memory: &mut [u8],
+    held: &mut [u8],
+    bytes: &mut [u8],
+    marks: &mut [u8],
+) -> Ready {
+    let (rings, size) = (memory.as_mut_ptr(), memory.len());
+    let (ring_marks, held_size) = (held.as_mut_ptr(), held.len());
+    let (run, count) = (bytes.as_mut_ptr(), bytes.len());
+    let (run_marks, marks_count) = (marks.as_mut_ptr(), marks.len());
+    // Sound: four slices that do not overlap.
+    unsafe {
+        header::yaxo_line_receive_run(
+            line,
+            position,
+            rings,
+            size,
+            ring_marks,
+            held_size,
+            run,
+            count,
+            run_marks,
+            marks_count,
+        )
+    }
+}
+
+pub fn frame_is_allowed(framing: Framing) -> bool {
+    // Sound: numbers alone cross.
+    unsafe { header::yaxo_frame_is_allowed(framing) }
+}
+
+pub fn frame_send(framing: Framing, payload: &[u8], sequence: u16, slots: &mut [u8]) -> u8 {
+    let (bytes, size) = (payload.as_ptr(), payload.len());
+    // Sound: two slices, of which the written one overlaps nothing.
+    unsafe { header::yaxo_frame_send(framing, bytes, size, sequence, slots.as_mut_ptr(), slots.len()) }
+}
+
+pub fn frame_receive(framing: Framing, slots: &[u8], marks: &[u8], area: &mut [u8]) -> Received {
+    let (bytes, size) = (slots.as_ptr(), slots.len());
+    // Sound: three slices, of which the written one overlaps nothing.
+    unsafe {
+        header::yaxo_frame_receive(framing, bytes, size, marks.as_ptr(), marks.len(), area.as_mut_ptr(), area.len())
+    }
+}
+
+pub fn hear_in(record: &mut Record, framing: Framing, slots: &[u8], marks: &[u8], area: &mut [u8]) -> Received {
+    let (bytes, size) = (slots.as_ptr(), slots.len());
+    let (trust, trust_size) = (marks.as_ptr(), marks.len());
+    // Sound: a record and three slices; the record and the written slice overlap nothing.
+    unsafe { header::yaxo_hear_in(record, framing, bytes, size, trust, trust_size, area.as_mut_ptr(), area.len()) }
+}
+
+pub fn record_fresh() -> Record {
+    // Sound: it takes nothing.
+    unsafe { header::yaxo_record_fresh() }
+}
+
+pub fn record_standing(accepted: u8, last: u16, sequence: u16) -> u8 {
+    // Sound: numbers alone cross.
+    unsafe { header::yaxo_record_standing(accepted, last, sequence) }
+}
+
+pub fn record_note_in(record: &mut Record, answer: u8, sequence: u16) {
+    // Sound: one record, lent to this call alone.
+    unsafe { header::yaxo_record_note_in(record, answer, sequence) }
+}
+
+pub fn cross_fresh_sender(memory: &mut [u8]) -> Ready {
+    // Sound: one slice.
+    unsafe { header::yaxo_cross_fresh_sender(memory.as_mut_ptr(), memory.len()) }
+}
+
+pub fn cross_fresh_receiver(memory: &mut [u8], held: &mut [u8]) -> Ready {
+    // Sound: two slices that do not overlap.
+    unsafe { header::yaxo_cross_fresh_receiver(memory.as_mut_ptr(), memory.len(), held.as_mut_ptr(), held.len()) }
+}
+
+pub fn cross_send(position: usize, memory: &mut [u8], message: &[u8], word: &mut [u8]) -> Ready {
+    let (rings, size) = (memory.as_mut_ptr(), memory.len());
+    let (bytes, k) = (message.as_ptr(), message.len());
+    // Sound: three slices; the two that are written overlap nothing.
+    unsafe { header::yaxo_cross_send(position, rings, size, bytes, k, word.as_mut_ptr(), word.len()) }
+}
+
+pub fn cross_receive(
+    position: usize,
+    memory: &mut [u8],
+    held: &mut [u8],
+    word: &[u8],
+    message: &mut [u8],
+) -> CrossReceived {
+    let (rings, size) = (memory.as_mut_ptr(), memory.len());
+    let (marks, h) = (held.as_mut_ptr(), held.len());
+    let (out, k) = (message.as_mut_ptr(), message.len());
+    // Sound: four slices; the three that are written overlap nothing.
+    unsafe { header::yaxo_cross_receive(position, rings, size, marks, h, word.as_ptr(), word.len(), out, k) }
+}

@@ -1,0 +1,220 @@
+//! Frames: sent, damaged, received, and every refusal.
+
+use reference::noise::Noise;
+use reference::{code, frame as plain, record as plain_record};
+use yaxopetzo::frame::{Refused, Setting};
+use yaxopetzo::record::Record;
+use yaxopetzo::Refusal;
+
+use crate::record;
+use crate::same::counted;
+
+fn plain(s: Setting) -> plain::Setting {
+    plain::Setting { depth: s.depth, n: s.n, r: s.r, b: s.b }
+}
+
+/// What an accepted frame holds, or number and word of a refusal.
+type Answer = Result<plain::Frame, (u8, usize)>;
+
+/// The reference's form of what the face answers. The payload's place in the area is compared too.
+fn heard(s: Setting, record: &mut Record, slots: &[u8], marks: &[u8], area: &mut [u8]) -> Answer {
+    let end = area.as_ptr() as usize + area.len();
+    let answer = s.hear(record, slots, marks, area);
+    let numbered = |refused: Refused| (refused.why.number(), refused.word);
+    let frame = answer.map_err(numbered)?;
+    assert_eq!(frame.payload.as_ptr() as usize + frame.payload.len() + 4, end, "the payload is no part of the area");
+    let figures: Vec<code::Figures> = frame.words().iter().map(|&f| counted(f)).collect();
+    Ok(plain::Frame { sequence: frame.sequence, payload: frame.payload.to_vec(), figures })
+}
+
+/// Receives on both sides, alone and with the record.
+fn received(s: Setting, slots: &[u8], marks: &[u8], before: &[u8]) -> Answer {
+    let (mut ours, mut theirs) = (before.to_vec(), before.to_vec());
+    let mut record = Record { accepted: true, last: 7, ..Record::fresh() };
+    let mut judge: plain_record::Record = record::plain(record);
+    let answer = heard(s, &mut record, slots, marks, &mut ours);
+    let expected = plain::receive(plain(s), slots, marks, &mut theirs);
+    assert_eq!(answer, expected, "{s:?}");
+    assert_eq!(ours, theirs, "{s:?}");
+    match &answer {
+        Ok(frame) => judge.note(0, frame.sequence),
+        Err((number, _)) => judge.note(*number, 0),
+    }
+    assert_eq!(record::plain(record), judge, "{s:?}");
+    let mut alone = before.to_vec();
+    let number =
+        s.receive(slots, marks, &mut alone).map(|frame| frame.sequence).map_err(|refused| refused.why.number());
+    assert_eq!(number, answer.as_ref().map(|frame| frame.sequence).map_err(|refused| refused.0));
+    assert_eq!(alone, ours, "{s:?}");
+    answer
+}
+
+/// Sends on both sides.
+fn sent(s: Setting, payload: &[u8], sequence: u16, before: &[u8]) -> (Result<(), u8>, Vec<u8>) {
+    let (mut ours, mut theirs) = (before.to_vec(), before.to_vec());
+    let answer = s.send(payload, sequence, &mut ours).map_err(Refusal::number);
+    assert_eq!(answer, plain::send(plain(s), payload, sequence, &mut theirs), "{s:?}");
+    assert_eq!(ours, theirs, "{s:?}");
+    (answer, ours)
+}
+
+/// A setting within the limits, its corners often.
+fn setting(noise: &mut Noise) -> Setting {
+    loop {
+        let depth = *[1, 2, 3, 16, noise.between(1, 16)].get(noise.below(5)).unwrap_or(&1);
+        let r = *[2, 3, 16, noise.between(2, 16)].get(noise.below(4)).unwrap_or(&2);
+        let n = *[r + 1, r + 2, r + 4, 32, 255, noise.between(r + 1, 255)].get(noise.below(6)).unwrap_or(&255);
+        let s = Setting { depth, n, r, b: noise.below(2) };
+        if n > r && depth * (n - r) >= 4 {
+            return s;
+        }
+    }
+}
+
+/// Damages each word within the bound; a word that is named is struck beyond it.
+fn damage(noise: &mut Noise, s: Setting, slots: &mut [u8], marks: &mut [u8], beyond: Option<usize>) {
+    for w in 0..s.depth {
+        let f = noise.below(s.r + 1);
+        let within = noise.below((s.r - f) / 2 + 1);
+        let e = if beyond == Some(w) { (s.r - f) / 2 + 1 } else { within };
+        let places = noise.places(s.n, f + e);
+        for (number, place) in places.iter().map(|i| i * s.depth + w).enumerate() {
+            marks[place] = (number < f) as u8;
+            slots[place] ^= noise.between((number >= f) as usize, 255) as u8;
+        }
+    }
+}
+
+#[test]
+fn sent_damaged_and_received() {
+    let mut noise = Noise::new(50);
+    for round in 0..1500 {
+        let s = setting(&mut noise);
+        let room = s.depth * (s.n - s.r) - 4;
+        let size = *[0, 1, room, noise.below(room + 1)].get(round % 4).unwrap_or(&0);
+        let payload = noise.bytes(size.min(room));
+        let sequence = noise.number() as u16;
+        let (answer, mut slots) = sent(s, &payload, sequence, &noise.bytes(s.depth * s.n));
+        assert_eq!(answer, Ok(()));
+        let mut marks = vec![0; slots.len()];
+        let beyond = (round % 3 == 0).then(|| noise.below(s.depth));
+        damage(&mut noise, s, &mut slots, &mut marks, beyond);
+        let answer = received(s, &slots, &marks, &noise.bytes(room + 4));
+        if beyond.is_none() {
+            assert!(answer.is_ok_and(|f| f.payload == payload && f.sequence == sequence), "{s:?}");
+        }
+    }
+    println!("1500 frames each way");
+}
+
+/// Frames one after the other into one record: newer, repeated, late and lost ones.
+#[test]
+fn heard_in_turn() {
+    let mut noise = Noise::new(53);
+    let s = Setting { depth: 2, n: 9, r: 4, b: 1 };
+    let (mut record, mut judge) = (Record::fresh(), plain_record::Record::default());
+    let mut sequence = 65000u16;
+    for _ in 0..20_000 {
+        sequence = sequence.wrapping_add(noise.below(4) as u16).wrapping_sub((noise.below(8) == 0) as u16);
+        let mut slots = plain::slots_of(plain(s), &plain::area_of(plain(s), &noise.bytes(3), sequence));
+        let mut marks = vec![0; 18];
+        let beyond = (noise.below(5) == 0).then_some(1);
+        damage(&mut noise, s, &mut slots, &mut marks, beyond);
+        let (mut ours, mut theirs) = ([0; 10], [0; 10]);
+        let answer = heard(s, &mut record, &slots, &marks, &mut ours);
+        assert_eq!(answer, plain::receive(plain(s), &slots, &marks, &mut theirs));
+        judge.note(answer.as_ref().err().map_or(0, |refused| refused.0), answer.map_or(0, |frame| frame.sequence));
+        assert_eq!((record::plain(record), ours), (judge, theirs));
+    }
+    let least = judge.newer.min(judge.repeat).min(judge.older).min(judge.refused);
+    assert!(least > 500, "{judge:?}: the test does not try what it says");
+    println!("20000 frames");
+}
+
+/// Trailers that point too far back, and bytes before the payload that are not zero.
+#[test]
+fn trailers() {
+    let mut noise = Noise::new(51);
+    let mut refused = 0;
+    for round in 0..1500 {
+        let s = setting(&mut noise);
+        let room = s.depth * (s.n - s.r) - 4;
+        let back = *[room, room + 1, 65535, 256, noise.below(room + 1)].get(round % 5).unwrap_or(&0);
+        let mut area = vec![0; room + 4];
+        area[room] = back as u8;
+        area[room + 1] = (back >> 8) as u8;
+        area[room + 2] = noise.byte();
+        if back <= room {
+            let start = room - back;
+            let fill = noise.bytes(back);
+            area[start..room].copy_from_slice(&fill);
+            if start > 0 && noise.below(2) == 0 {
+                area[noise.below(start)] = 1;
+            }
+        }
+        let mut slots = plain::slots_of(plain(s), &area);
+        let mut marks = vec![0; slots.len()];
+        damage(&mut noise, s, &mut slots, &mut marks, None);
+        refused += (received(s, &slots, &marks, &noise.bytes(room + 4)) == Err((5, 0))) as usize;
+    }
+    assert!(refused > 600, "only {refused} trailers were refused: the test does not try what it says");
+    println!("1500 frames, {refused} refused 5");
+}
+
+/// Every limit from both sides, and A from 0 to 5.
+fn around_the_limits() -> Vec<Setting> {
+    let depths = [0, 1, 2, 3, 4, 16, 17, 258, usize::MAX];
+    let words = [(3, 2), (4, 2), (5, 2), (6, 2), (255, 16), (256, 16), (20, 17), (20, 1), (16, 16), (0, 0), (261, 2)];
+    let pairs = depths.iter().flat_map(|&depth| words.map(|word| (depth, word)));
+    pairs.flat_map(|(depth, (n, r))| [0, 1, 2, 256].map(|b| Setting { depth, n, r, b })).collect()
+}
+
+/// Limits, lengths, marks and payloads that are too long, and which comes first.
+#[test]
+fn refused() {
+    for s in around_the_limits() {
+        assert_eq!(s.is_allowed(), plain(s).is_allowed(), "{s:?}");
+        lengths(s, s.depth.min(20) * s.n, s.depth.min(20) * s.n.saturating_sub(s.r));
+    }
+    println!("{} settings", around_the_limits().len());
+}
+
+fn lengths(s: Setting, slots: usize, area: usize) {
+    for (x, y, z) in [(0, 0, 0), (1, 0, 0), (0, 1, 0), (0, 0, 1)] {
+        for mark in [0, 1, 2] {
+            let _ = received(s, &vec![0; slots + x], &vec![mark; slots + y], &vec![5; area + z]);
+        }
+    }
+    let room = area.saturating_sub(4);
+    for (size, extra) in [(room, 0), (room + 1, 0), (room, 1), (room + 1, 1), (9000, 0), (0, 0)] {
+        let _ = sent(s, &vec![6; size], 513, &vec![5; slots + extra]);
+    }
+    if slots > 0 {
+        let _ = sent(s, &[], 0, &vec![5; slots - 1]);
+        let _ = received(s, &vec![0; slots - 1], &vec![0; slots - 1], &vec![5; area]);
+    }
+}
+
+/// One bad mark anywhere in a frame leaves area and record alone.
+#[test]
+fn bad_marks() {
+    let mut noise = Noise::new(52);
+    for _ in 0..500 {
+        let s = setting(&mut noise);
+        let size = s.depth * s.n;
+        let mut marks = vec![0; size];
+        marks[noise.below(size)] = noise.between(2, 255) as u8;
+        let answer = received(s, &noise.bytes(size), &marks, &noise.bytes(s.depth * (s.n - s.r)));
+        assert_eq!(answer, Err((3, 0)));
+    }
+}
+
+/// The paper's example for the bench reader.
+#[test]
+fn example() {
+    let s = Setting { depth: 2, n: 5, r: 2, b: 0 };
+    let mut area = [9; 6];
+    let frame = s.receive(&[0, 0, 0, 0, 1, 1, 217, 13, 153, 14], &[0; 10], &mut area);
+    let told = frame.map(|f| (f.sequence, f.payload, f.words().iter().map(|w| (w.errors, w.bits)).collect()));
+    assert_eq!(told, Ok((258, &[65][..], vec![(1, 2), (1, 1)])));
+}
