@@ -8,8 +8,8 @@ use Rattle.line.specs.Setting.{lineAt}
 use Rattle.line.specs.Promises.{FreshSender, FreshReceiver, SendStep, SendRun, ReceiveStep, ReceiveRun, fresh-sender-once, fresh-receiver-once, send-step-once, send-run-once, receive-step-once, receive-run-once}
 use Rattle.line.specs.declared.setting.Line.{Line}
 use Rattle.line.specs.declared.setting.Ready.{Ready}
-use Rattle.line.specs.declared.sender.Sent.{Sent}
-use Rattle.line.specs.declared.receiver.Received.{Received}
+use Rattle.line.specs.declared.setting.Sent.{Sent}
+use Rattle.line.specs.declared.setting.Received.{Received}
 use Rattle.face.specs.Shown.{Shows, shown-once}
 use Rattle.face.specs.declared.delay_line.LineSetting.{LineSetting}
 use Rattle.face.specs.declared.delay_line.LineReady.{LineReady}
