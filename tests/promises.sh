@@ -5,7 +5,7 @@ for source in crates/*/src/*.rt; do
   crate=${source#crates/}
   crate=${crate%%/*}
   [ -f "crates/$crate/src/lib.rt" ] || continue
-  for call in $(sed -n 's/^pub fn \([a-z_0-9]*\).*/\1/p' "$source"); do
+  for call in $(sed -nE 's/^pub (extern "C" )?fn ([a-z_0-9]*).*/\2/p' "$source"); do
     grep -qE "\`([a-z_]+::)*$call[(\`]" docs/PROMISES.md || { echo "docs/PROMISES.md does not name $call of $crate"; status=1; }
   done
 done

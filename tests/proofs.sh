@@ -9,7 +9,7 @@ if grep -rnE '^ *axiom ' crates --include='*.antt'; then
   echo "an axiom"
   status=1
 fi
-# `steps` and `rings` are inner crates: their calls may ask something.
+# `steps` and `rings` are inner crates: their calls may ask something. `face` and `radio`, whose calls C makes, stand below.
 for library in field word record line interleave link reader; do
   for call in $(sed -n 's/^pub use [a-z_:]*::\([a-z_0-9]*\);$/\1/p; s/^pub fn \([a-z_0-9]*\).*/\1/p' "crates/$library/src/lib.rt"); do
     if cat "crates/$library"/src/*.rt | sed -n "/^pub fn $call[<(]/,/^{/p" | grep -q requires; then
@@ -18,4 +18,15 @@ for library in field word record line interleave link reader; do
     fi
   done
 done
+# C cannot be held to a `requires`, and no call for C is without a promise.
+if grep -n requires crates/face/src/*.rt crates/radio/src/*.rt; then
+  echo "a call for C has a requires"
+  status=1
+fi
+calls=$(grep -c '^pub extern "C" fn ' <(cat crates/radio/src/*.rt))
+promises=$(grep -c '^    ensures { ' <(cat crates/radio/src/*.rt))
+if [ "$calls" -eq 0 ] || [ "$calls" -ne "$promises" ]; then
+  echo "radio has $calls calls for C and $promises promises"
+  status=1
+fi
 exit $status

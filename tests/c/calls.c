@@ -1,0 +1,240 @@
+/*
+ * The radio library from C: each call once or more through the header, against document 01's worked table and against damage whose
+ * end is known. It catches a wrong layout of a struct, arguments in another order, a wrong number, and a buffer that a refusal changed.
+ * It prints the line of each thing that does not hold, and ends with status 0 only where all holds.
+ */
+#include <stdio.h>
+#include <string.h>
+
+#include "yaxopetzo.h"
+
+static int failures = 0;
+
+static void expect(bool holds, int line)
+{
+    if (!holds) {
+        printf("calls.c:%d does not hold\n", line);
+        failures++;
+    }
+}
+
+#define EXPECT(condition) expect((condition), __LINE__)
+#define SAME(buffer, ...)                                                                                   \
+    EXPECT(memcmp((buffer), (const uint8_t[])__VA_ARGS__, sizeof((const uint8_t[])__VA_ARGS__)) == 0)
+
+static bool has_figures(yaxo_figures f, unsigned errors, unsigned marked, unsigned bits)
+{
+    return f.errors == errors && f.marked == marked && f.bits == bits;
+}
+
+/* P3 to P10 of the worked table, and each refusal. */
+static void words(void)
+{
+    const yaxo_code sklar = { 3, 7, 4, 1 };
+    const yaxo_code s = { 8, 3, 2, 0 };
+    const uint8_t message[3] = { 7, 3, 2 };
+    const uint8_t none[7] = { 0 };
+    uint8_t word[7] = { 9, 9, 9, 9, 9, 9, 9 };
+    uint8_t part[3] = { 9, 9, 9 };
+    yaxo_decoded d;
+
+    EXPECT(yaxo_word_is_allowed(sklar));
+    EXPECT(!yaxo_word_is_allowed((yaxo_code){ 8, 256, 16, 0 }));
+    EXPECT(!yaxo_word_is_allowed((yaxo_code){ 8, (uint32_t)-1, 16, 0 }));
+    EXPECT(yaxo_word_encode((yaxo_code){ 3, 7, 4, 2 }, message, 3, word, 7) == YAXO_SETTING);
+    EXPECT(yaxo_word_encode(sklar, message, 2, word, 7) == YAXO_LENGTH);
+    EXPECT(yaxo_word_encode(sklar, (const uint8_t[]){ 7, 3, 8 }, 3, word, 7) == YAXO_SYMBOL);
+    SAME(word, { 9, 9, 9, 9, 9, 9, 9 });
+    EXPECT(yaxo_word_encode(sklar, message, 3, word, 7) == YAXO_DONE);
+    SAME(word, { 7, 3, 2, 5, 6, 4, 1 });
+
+    word[2] = 5;
+    word[3] = 1;
+    d = yaxo_word_decode_part(sklar, word, 7, none, 7, part, 3);
+    EXPECT(d.answer == YAXO_DONE && has_figures(d.figures, 2, 0, 4));
+    SAME(part, { 7, 3, 2 });
+    SAME(word, { 7, 3, 5, 1, 6, 4, 1 });
+    d = yaxo_word_decode(sklar, word, 7, none, 7);
+    EXPECT(d.answer == YAXO_DONE && has_figures(d.figures, 2, 0, 4));
+    SAME(word, { 7, 3, 2, 5, 6, 4, 1 });
+
+    memcpy(word, (const uint8_t[]){ 0, 0, 2 }, 3);
+    d = yaxo_word_decode(s, word, 3, (const uint8_t[]){ 1, 1, 0 }, 3);
+    EXPECT(d.answer == YAXO_DONE && has_figures(d.figures, 0, 2, 3));
+    SAME(word, { 1, 3, 2 });
+    d = yaxo_word_decode(s, word, 3, (const uint8_t[]){ 1, 1, 1 }, 3);
+    EXPECT(d.answer == YAXO_BEYOND_REACH && has_figures(d.figures, 0, 0, 0));
+    d = yaxo_word_decode(s, word, 3, (const uint8_t[]){ 0, 2, 0 }, 3);
+    EXPECT(d.answer == YAXO_SYMBOL);
+    SAME(word, { 1, 3, 2 });
+}
+
+/* P11, both ways. */
+static void block(void)
+{
+    const uint8_t words[6] = { 1, 3, 2, 2, 6, 4 };
+    uint8_t slots[6] = { 0 };
+    uint8_t back[6] = { 0 };
+
+    EXPECT(yaxo_block_spread(17, 3, words, 6, slots, 6) == YAXO_SETTING);
+    EXPECT(yaxo_block_spread(2, 3, words, 6, slots, 5) == YAXO_LENGTH);
+    EXPECT(yaxo_block_spread(2, 3, words, 6, slots, 6) == YAXO_DONE);
+    SAME(slots, { 1, 2, 3, 6, 2, 4 });
+    EXPECT(yaxo_block_gather(2, 3, slots, 6, back, 6) == YAXO_DONE);
+    EXPECT(memcmp(back, words, 6) == 0);
+}
+
+/* P12: the sender by runs and by steps, the receiver by steps and by runs. */
+static void line(void)
+{
+    const yaxo_line setting = { 2, 2, 4 };
+    uint8_t memory[YAXO_LINE_MEMORY(2, 2)] = { 5, 5 };
+    uint8_t held[YAXO_LINE_MEMORY(2, 2)] = { 5, 5 };
+    uint8_t bytes[8] = { 1, 2, 3, 4, 5, 6, 7, 8 };
+    uint8_t marks[8] = { 0 };
+    yaxo_ready ready;
+    yaxo_line_sent sent;
+    yaxo_line_received received;
+
+    EXPECT(yaxo_line_fresh_sender((yaxo_line){ 2, 1, 4 }, memory, 1).answer == YAXO_SETTING);
+    EXPECT(yaxo_line_fresh_sender(setting, memory, 1).answer == YAXO_LENGTH);
+    SAME(memory, { 5, 5 });
+    ready = yaxo_line_fresh_sender(setting, memory, sizeof memory);
+    EXPECT(ready.answer == YAXO_DONE && ready.position == 0);
+    ready = yaxo_line_send_run(setting, ready.position, memory, sizeof memory, bytes, 7);
+    EXPECT(ready.answer == YAXO_DONE && ready.position == 3);
+    sent = yaxo_line_send_step(setting, ready.position, memory, sizeof memory, bytes[7]);
+    EXPECT(sent.answer == YAXO_DONE && sent.position == 0);
+    bytes[7] = sent.byte;
+    SAME(bytes, { 1, 0, 3, 0, 5, 2, 7, 4 });
+    sent = yaxo_line_send_step(setting, 4, memory, sizeof memory, 1);
+    EXPECT(sent.answer == YAXO_SETTING && sent.byte == 0 && sent.position == 4);
+
+    ready = yaxo_line_fresh_receiver(setting, memory, sizeof memory, held, sizeof held);
+    EXPECT(ready.answer == YAXO_DONE && ready.position == 0);
+    SAME(memory, { 0, 0 });
+    SAME(held, { 1, 1 });
+    received = yaxo_line_receive_step(setting, 0, memory, sizeof memory, held, sizeof held, bytes[0], 2);
+    EXPECT(received.answer == YAXO_SYMBOL && received.byte == 0 && received.mark == 0 && received.position == 0);
+    received = yaxo_line_receive_step(setting, 0, memory, sizeof memory, held, sizeof held, bytes[0], 0);
+    EXPECT(received.answer == YAXO_DONE && received.byte == 0 && received.mark == 1 && received.position == 1);
+    bytes[0] = received.byte;
+    ready = yaxo_line_receive_run(setting, 1, memory, sizeof memory, held, sizeof held, bytes + 1, 7, marks, 6);
+    EXPECT(ready.answer == YAXO_LENGTH && ready.position == 1);
+    ready = yaxo_line_receive_run(setting, 1, memory, sizeof memory, held, sizeof held, bytes + 1, 7, marks + 1, 7);
+    EXPECT(ready.answer == YAXO_DONE && ready.position == 0);
+    marks[0] = received.mark;
+    SAME(bytes, { 0, 0, 0, 0, 1, 2, 3, 4 });
+    SAME(marks, { 1, 0, 1, 0, 0, 0, 0, 0 });
+}
+
+/* The bench reader's example: a frame of two words, sent, damaged, and received with the record. */
+static void frame(void)
+{
+    const yaxo_framing framing = { 2, 5, 2, 0 };
+    const uint8_t none[10] = { 0 };
+    const uint8_t sent[10] = { 0, 0, 65, 2, 1, 1, 217, 13, 153, 14 };
+    uint8_t slots[10] = { 0 };
+    uint8_t area[6] = { 9, 9, 9, 9, 9, 9 };
+    yaxo_record record = yaxo_record_fresh();
+    yaxo_received got;
+    yaxo_heard heard;
+
+    EXPECT(yaxo_frame_is_allowed(framing));
+    EXPECT(!yaxo_frame_is_allowed((yaxo_framing){ 1, 5, 2, 0 }));
+    EXPECT(yaxo_frame_send(framing, (const uint8_t *)"ABC", 3, 258, slots, 10) == YAXO_PAYLOAD);
+    EXPECT(yaxo_frame_send(framing, (const uint8_t *)"A", 1, 258, slots, 9) == YAXO_LENGTH);
+    EXPECT(memcmp(slots, none, 10) == 0);
+    EXPECT(yaxo_frame_send(framing, (const uint8_t *)"A", 1, 258, slots, 10) == YAXO_DONE);
+    EXPECT(memcmp(slots, sent, 10) == 0);
+
+    slots[2] = 0;
+    slots[3] = 0;
+    got = yaxo_frame_receive(framing, slots, 10, none, 10, area, 6);
+    EXPECT(got.answer == YAXO_DONE && got.word == 0 && got.sequence == 258);
+    EXPECT(got.length == 1 && got.start == 1 && area[got.start] == 'A');
+    EXPECT(has_figures(got.figures[0], 1, 0, 2) && has_figures(got.figures[1], 1, 0, 1) && has_figures(got.figures[15], 0, 0, 0));
+    SAME(area, { 0, 65, 1, 0, 2, 1 });
+
+    EXPECT(yaxo_record_standing(record.accepted, record.last, 258) == YAXO_NEWER);
+    got = yaxo_hear_in(&record, framing, slots, 10, none, 10, area, 6);
+    EXPECT(got.answer == YAXO_DONE && got.sequence == 258 && got.start == 1 && got.length == 1);
+    EXPECT(record.accepted == 1 && record.last == 258 && record.newer == 1);
+    EXPECT(yaxo_record_standing(record.accepted, record.last, 258) == YAXO_REPEAT);
+    EXPECT(yaxo_record_standing(record.accepted, record.last, 257) == YAXO_OLDER);
+    EXPECT(yaxo_record_standing(1, 65535, 2) == YAXO_NEWER);
+
+    /* Two errors in word 0: refused, the area is zeros, and the record counts it. */
+    slots[4] = 77;
+    heard = yaxo_hear(record, framing, slots, 10, none, 10, area, 6);
+    EXPECT(heard.answer.answer == YAXO_BEYOND_REACH && heard.answer.word == 0 && heard.answer.length == 0);
+    EXPECT(heard.next.refused == 1 && heard.next.newer == 1 && heard.next.last == 258 && record.refused == 0);
+    SAME(area, { 0, 0, 0, 0, 0, 0 });
+
+    /* The record where nothing but 0, 4 and 5 changes it, and a byte for `accepted` that C alone could have put there. */
+    record.accepted = 7;
+    yaxo_record_note_in(&record, YAXO_SYMBOL, 300);
+    EXPECT(record.accepted == 7 && record.last == 258 && record.newer == 1 && record.refused == 0);
+    yaxo_record_note_in(&record, YAXO_TRAILER, 300);
+    EXPECT(record.accepted == 7 && record.last == 258 && record.refused == 1);
+    yaxo_record_note_in(&record, YAXO_DONE, 257);
+    EXPECT(record.older == 1 && record.last == 258);
+    record = yaxo_record_note(record, YAXO_DONE, 300);
+    EXPECT(record.accepted == 7 && record.last == 300 && record.newer == 2 && record.repeat == 0 && record.older == 1 && record.refused == 1);
+}
+
+/* The cross line both ways: a run of ten lost frames, and each message 108 frames after it was sent. */
+static void cross(void)
+{
+    enum { FRAMES = 300 };
+    uint8_t sender[YAXO_CROSS_MEMORY], receiver[YAXO_CROSS_MEMORY], held[YAXO_CROSS_MEMORY];
+    uint8_t message[YAXO_CROSS_MESSAGE], word[YAXO_CROSS_WORD], out[YAXO_CROSS_MESSAGE];
+    yaxo_ready at;
+    yaxo_ready there;
+    yaxo_cross_received got;
+    unsigned marked = 0;
+
+    EXPECT(yaxo_cross_fresh_sender(sender, 1511).answer == YAXO_LENGTH);
+    at = yaxo_cross_fresh_sender(sender, sizeof sender);
+    there = yaxo_cross_fresh_receiver(receiver, sizeof receiver, held, sizeof held);
+    EXPECT(at.answer == YAXO_DONE && at.position == 0 && there.answer == YAXO_DONE && there.position == 0);
+    for (unsigned f = 0; f < FRAMES; f++) {
+        for (unsigned i = 0; i < sizeof message; i++) {
+            message[i] = (uint8_t)(31 * f + i);
+        }
+        at = yaxo_cross_send(at.position, sender, sizeof sender, message, sizeof message, word, sizeof word);
+        EXPECT(at.answer == YAXO_DONE && at.position == f + 1);
+        if (120 <= f && f < 130) {
+            memset(word, (int)f, sizeof word);
+        }
+        memset(out, 0xEE, sizeof out);
+        got = yaxo_cross_receive(there.position, receiver, sizeof receiver, held, sizeof held, word, sizeof word, out, sizeof out);
+        there.position = got.position;
+        if (f < YAXO_CROSS_DELAY) {
+            EXPECT(got.answer == YAXO_NOT_YET && out[0] == 0xEE && out[23] == 0xEE);
+            continue;
+        }
+        EXPECT(got.answer == YAXO_DONE && got.position == f + 1);
+        for (unsigned i = 0; i < sizeof out; i++) {
+            EXPECT(out[i] == (uint8_t)(31 * (f - YAXO_CROSS_DELAY) + i));
+        }
+        marked += got.figures.marked;
+    }
+    /* Each byte of a lost frame is marked in one outer word: ten frames of 28. */
+    EXPECT(marked == 280);
+
+    held[5] = 2;
+    got = yaxo_cross_receive(there.position, receiver, sizeof receiver, held, sizeof held, word, sizeof word, out, sizeof out);
+    EXPECT(got.answer == YAXO_SYMBOL && got.position == FRAMES);
+    EXPECT(yaxo_cross_send((size_t)-1, sender, sizeof sender, message, sizeof message, word, sizeof word).answer == YAXO_SETTING);
+}
+
+int main(void)
+{
+    words();
+    block();
+    line();
+    frame();
+    cross();
+    return failures == 0 ? 0 : 1;
+}
