@@ -6,8 +6,8 @@
  * calls, it takes no memory of its own but the stack, and it ends. Two threads may call at once with buffers of their own.
  *
  * What a caller owes, since no call can test it:
- *   - a pointer with a length of L points to L bytes (an empty buffer's pointer may be NULL);
- *   - a buffer that a call writes overlaps no other buffer of the same call.
+ *   - a pointer with a length of L points to L bytes (an empty buffer's pointer may be NULL), and one to a record to a record;
+ *   - what a call writes overlaps nothing else that is lent to the same call.
  *
  * What is not a buffer's content goes by value. A buffer that is not `const` is written only where the call says so.
  */

@@ -119,23 +119,31 @@ pub fn frame_send(framing: Framing, payload: &[u8], sequence: u16, slots: &mut [
 }
 
 pub fn frame_receive(framing: Framing, slots: &[u8], marks: &[u8], area: &mut [u8]) -> Received {
+    let mut out = Received::default();
     let (bytes, size) = (slots.as_ptr(), slots.len());
-    // Sound: three slices, of which the written one overlaps nothing.
+    let (trust, trust_size) = (marks.as_ptr(), marks.len());
+    // Sound: the result's place and three slices; the place and the written slice overlap nothing.
     unsafe {
-        header::yaxo_frame_receive(framing, bytes, size, marks.as_ptr(), marks.len(), area.as_mut_ptr(), area.len())
-    }
+        header::yaxo_frame_receive(&mut out, framing, bytes, size, trust, trust_size, area.as_mut_ptr(), area.len())
+    };
+    out
 }
 
 pub fn hear_in(record: &mut Record, framing: Framing, slots: &[u8], marks: &[u8], area: &mut [u8]) -> Received {
+    let mut out = Received::default();
     let (bytes, size) = (slots.as_ptr(), slots.len());
     let (trust, trust_size) = (marks.as_ptr(), marks.len());
-    // Sound: a record and three slices; the record and the written slice overlap nothing.
-    unsafe { header::yaxo_hear_in(record, framing, bytes, size, trust, trust_size, area.as_mut_ptr(), area.len()) }
+    let (lent, a) = (area.as_mut_ptr(), area.len());
+    // Sound: the result's place, a record and three slices; what is written of them overlaps nothing.
+    unsafe { header::yaxo_hear_in(&mut out, record, framing, bytes, size, trust, trust_size, lent, a) };
+    out
 }
 
 pub fn record_fresh() -> Record {
-    // Sound: it takes nothing.
-    unsafe { header::yaxo_record_fresh() }
+    let mut out = Record::default();
+    // Sound: it takes nothing but the result's place.
+    unsafe { header::yaxo_record_fresh(&mut out) };
+    out
 }
 
 pub fn record_standing(accepted: u8, last: u16, sequence: u16) -> u8 {

@@ -101,6 +101,8 @@ static void line(void)
     SAME(memory, { 5, 5 });
     ready = yaxo_line_fresh_sender(setting, memory, sizeof memory);
     EXPECT(ready.answer == YAXO_DONE && ready.position == 0);
+    ready = yaxo_line_send_run(setting, ready.position, memory, sizeof memory, NULL, 0);
+    EXPECT(ready.answer == YAXO_DONE && ready.position == 0);
     ready = yaxo_line_send_run(setting, ready.position, memory, sizeof memory, bytes, 7);
     EXPECT(ready.answer == YAXO_DONE && ready.position == 3);
     sent = yaxo_line_send_step(setting, ready.position, memory, sizeof memory, bytes[7]);
@@ -145,6 +147,9 @@ static void frame(void)
     EXPECT(yaxo_frame_send(framing, (const uint8_t *)"ABC", 3, 258, slots, 10) == YAXO_PAYLOAD);
     EXPECT(yaxo_frame_send(framing, (const uint8_t *)"A", 1, 258, slots, 9) == YAXO_LENGTH);
     EXPECT(memcmp(slots, none, 10) == 0);
+    EXPECT(yaxo_frame_send(framing, NULL, 0, 7, slots, 10) == YAXO_DONE);
+    got = yaxo_frame_receive(framing, slots, 10, none, 10, area, 6);
+    EXPECT(got.answer == YAXO_DONE && got.sequence == 7 && got.length == 0 && got.start == 2);
     EXPECT(yaxo_frame_send(framing, (const uint8_t *)"A", 1, 258, slots, 10) == YAXO_DONE);
     EXPECT(memcmp(slots, sent, 10) == 0);
 

@@ -1,9 +1,13 @@
 //! `include/yaxopetzo.h` in Rust: its structs, field by field, and its declarations.
 //!
 //! Two calls of the header are left out, those that take and give a record by value: the face lends one.
+//!
+//! Three calls give more than 16 bytes (`record_fresh`, `frame_receive`, `hear_in`). On x86-64 C hands over the result's place
+//! as a hidden first argument. Here it is a plain first argument, which is the same call: the archive that
+//! `tools/native-archive` makes for another processor has it so too, where C's own rule would be another.
 
 /// `yaxo_figures`.
-#[derive(Clone, Copy)]
+#[derive(Clone, Copy, Default)]
 #[repr(C)]
 pub struct Figures {
     pub errors: u16,
@@ -72,6 +76,7 @@ pub struct Framing {
 }
 
 /// `yaxo_received`.
+#[derive(Default)]
 #[repr(C)]
 pub struct Received {
     pub answer: u8,
@@ -83,7 +88,7 @@ pub struct Received {
 }
 
 /// `yaxo_record`.
-#[derive(Clone, Copy)]
+#[derive(Clone, Copy, Default)]
 #[repr(C)]
 pub struct Record {
     pub accepted: u8,
@@ -160,6 +165,7 @@ extern "C" {
         s: usize,
     ) -> u8;
     pub fn yaxo_frame_receive(
+        out: *mut Received,
         framing: Framing,
         slots: *const u8,
         s: usize,
@@ -167,8 +173,9 @@ extern "C" {
         marks_s: usize,
         area: *mut u8,
         a: usize,
-    ) -> Received;
+    );
     pub fn yaxo_hear_in(
+        out: *mut Received,
         record: *mut Record,
         framing: Framing,
         slots: *const u8,
@@ -177,8 +184,8 @@ extern "C" {
         marks_s: usize,
         area: *mut u8,
         a: usize,
-    ) -> Received;
-    pub fn yaxo_record_fresh() -> Record;
+    );
+    pub fn yaxo_record_fresh(out: *mut Record);
     pub fn yaxo_record_standing(accepted: u8, last: u16, sequence: u16) -> u8;
     pub fn yaxo_record_note_in(record: *mut Record, answer: u8, sequence: u16);
     pub fn yaxo_cross_fresh_sender(memory: *mut u8, size: usize) -> Ready;
