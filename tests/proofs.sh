@@ -9,7 +9,7 @@ if grep -rnE '^ *axiom ' crates --include='*.antt'; then
   echo "an axiom"
   status=1
 fi
-# `steps` and `rings` are inner crates: their calls may ask something.
+# `kernel`, `steps` and `rings` are inner crates: their calls may ask something.
 for library in field word record line interleave link reader; do
   for call in $(sed -n 's/^pub use [a-z_:]*::\([a-z_0-9]*\);$/\1/p; s/^pub fn \([a-z_0-9]*\).*/\1/p' "crates/$library/src/lib.rt"); do
     if cat "crates/$library"/src/*.rt | sed -n "/^pub fn $call[<(]/,/^{/p" | grep -q requires; then
