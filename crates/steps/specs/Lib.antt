@@ -3,7 +3,5 @@ pub mod Checks
 pub mod Syndromes
 pub mod Peeling
 pub mod Listing
-pub mod Rows
-pub mod Elimination
 pub mod Candidates
 pub mod Corrections

@@ -23,7 +23,7 @@ pub fn peel(m: usize, sums: [u8; 16], x: u8) -> [u8; 16]
 }
 
 // Puts the flagged places of a word of n into `places`, in order, and gives their number.
-pub fn list(n: usize, flags: &[u8], places: &mut [u8; 255]) -> usize
+pub(crate) fn list(n: usize, flags: &[u8], places: &mut [u8; 255]) -> usize
     requires { do ⌜ (n ≤ 255) × (n ≤ (← ⟦flags.len()⟧)) × (length (now places) ≡ 255) ⌝ }
     ensures { λ r. ⌜ (r ≤ n) × Listed n (now (flags .entry)) r (now (places .exit)) ⌝ }
 {
@@ -40,7 +40,7 @@ pub fn list(n: usize, flags: &[u8], places: &mut [u8; 255]) -> usize
 }
 
 // The sums without the listed places of a word of n, but for the place `skip`, which stays.
-pub fn peel_listed(
+pub(crate) fn peel_listed(
     m: usize,
     n: usize,
     locators: &[u8; 255],

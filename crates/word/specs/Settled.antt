@@ -20,7 +20,7 @@ use Rattle.word.specs.Answers.{figures}
 use Rattle.word.specs.Answers.Laws.{Checked}
 use Rattle.steps.specs.Syndromes.{Syndromes, allZero, allZero-at, allZero-yes}
 use Rattle.steps.specs.Peeling.{PeeledAll}
-use Rattle.steps.specs.Elimination.{KernelVector}
+use Rattle.kernel.specs.Elimination.{KernelVector}
 use Rattle.steps.specs.Candidates.{Candidates}
 use Rattle.steps.specs.Corrections.{Corrected}
 use Rattle.word.specs.Solution.{clean, solved, left-zero, made-codeword}

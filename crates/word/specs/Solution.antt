@@ -31,7 +31,7 @@ use Rattle.word.specs.Completion.{codeword-from}
 use Rattle.word.specs.Answers.Laws.{Checked}
 use Rattle.steps.specs.Syndromes.{Syndromes, syndromes-sums}
 use Rattle.steps.specs.Peeling.{PeeledAll}
-use Rattle.steps.specs.Elimination.{KernelVector}
+use Rattle.kernel.specs.Elimination.{KernelVector}
 use Rattle.steps.specs.Candidates.{Candidates}
 use Rattle.steps.specs.Corrections.{Fixed, Corrected, weightOf}
 use Rattle.word.specs.declared.Setting.{Setting}

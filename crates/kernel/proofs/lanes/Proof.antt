@@ -5,9 +5,9 @@ use native.Mathlib.Omega.{arith}
 use Prim.Native.Nat.{_-_, _≤_}
 use mathlib.Core.Path.{_≡_, refl}
 use Rattle.algebra.specs.Lists.{Filled, filled-none, filled-more}
-use Rattle.steps.specs.Rows.{row}
-use Rattle.steps.proofs.kernel.lanes.Statement.{statement}
-use Rattle.steps.proofs.kernel.lanes.Tie as tie
+use Rattle.kernel.specs.Rows.{row}
+use Rattle.kernel.proofs.lanes.Statement.{statement}
+use Rattle.kernel.proofs.lanes.Tie as tie
 
 abbrev Inv-loop : tie.InvT-loop
 Inv-loop v b r₀ l₀ r l = (l ≤ 16) × Filled 16 (row v b) l r

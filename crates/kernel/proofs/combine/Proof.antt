@@ -5,9 +5,9 @@ use native.Mathlib.Omega.{arith}
 use borrow.Author.Needs.{needs}
 use Prim.Native.Nat.{_-_, _≤_}
 use mathlib.Core.Path.{_≡_}
-use Rattle.steps.specs.Rows.{Combined, combined-none, combined-more}
-use Rattle.steps.proofs.kernel.combine.Statement.{statement}
-use Rattle.steps.proofs.kernel.combine.Tie as tie
+use Rattle.kernel.specs.Rows.{Combined, combined-none, combined-more}
+use Rattle.kernel.proofs.combine.Statement.{statement}
+use Rattle.kernel.proofs.combine.Tie as tie
 
 abbrev Inv-loop : tie.InvT-loop
 Inv-loop m v₀ b c d x y own other l₀ v l = (l ≤ d) × Combined m b c l x y v₀ v

@@ -5,9 +5,9 @@ use native.Mathlib.Omega.{arith}
 use Prim.Native.Nat.{_-_, _≤_}
 use mathlib.Core.Path.{_≡_, refl}
 use Rattle.algebra.specs.Tests.{below}
-use Rattle.steps.specs.Elimination.{Units, units-none, units-more}
-use Rattle.steps.proofs.kernel.units.Statement.{statement}
-use Rattle.steps.proofs.kernel.units.Tie as tie
+use Rattle.kernel.specs.Elimination.{Units, units-none, units-more}
+use Rattle.kernel.proofs.units.Statement.{statement}
+use Rattle.kernel.proofs.units.Tie as tie
 
 abbrev Inv-loop : tie.InvT-loop
 Inv-loop v₀ s₀ v s = (s ≤ 9) × Units s v

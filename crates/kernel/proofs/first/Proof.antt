@@ -7,9 +7,9 @@ use mathlib.Core.Path.{_≡_}
 use native.Mathlib.Nat.{not-suc-le-zero}
 use borrow.Author.Count.{below-more}
 use Rattle.algebra.specs.Tests.{at}
-use Rattle.steps.specs.Elimination.{living-more}
-use Rattle.steps.proofs.kernel.first.Statement.{statement}
-use Rattle.steps.proofs.kernel.first.Tie as tie
+use Rattle.kernel.specs.Elimination.{living-more}
+use Rattle.kernel.proofs.first.Statement.{statement}
+use Rattle.kernel.proofs.first.Tie as tie
 
 abbrev Inv-loop : tie.InvT-loop
 Inv-loop alive d s₀ s = (i : ℕ) → i < s → at alive i ≡ 0

@@ -17,7 +17,7 @@ use Rattle.algebra.specs.Tests.{at, each, each-at, below, below-at}
 use Rattle.algebra.specs.Lists.{Filled}
 use Rattle.algebra.specs.Kernel.{Fine, Fine-unit, Fine-keep, Fine-comb, Fine-ext, Fine-same, comb, dot-ext}
 use Rattle.field.specs.Elements.{K, wide, known, one-below}
-use Rattle.steps.specs.Rows.{row, rowDot, Combined}
+use Rattle.kernel.specs.Rows.{row, rowDot, Combined}
 
 -- the vector s has degree s, and is orthogonal to the windows of sums below j
 abbrev pub Vec : (m d : ℕ) (sums : List ℕ) (j : ℕ) (v : List ℕ) (s : ℕ) → Type 0

@@ -7,9 +7,9 @@ use Prim.Native.Nat.{_+_, _-_, _≤_}
 use mathlib.Core.Path.{_≡_, refl}
 use lib.ListN.{length}
 use Rattle.algebra.specs.Tests.{each}
-use Rattle.steps.specs.Elimination.{Eliminated, eliminated-none, kernel-vector}
-use Rattle.steps.proofs.kernel.kernel.Statement.{statement}
-use Rattle.steps.proofs.kernel.kernel.Tie as tie
+use Rattle.kernel.specs.Elimination.{Eliminated, eliminated-none, kernel-vector}
+use Rattle.kernel.proofs.kernel.Statement.{statement}
+use Rattle.kernel.proofs.kernel.Tie as tie
 
 abbrev Inv-loop : tie.InvT-loop
 Inv-loop m t long v₀ alive₀ j₀ v alive j = (j ≤ t) × Eliminated m (t + 1) long j v alive

@@ -4,9 +4,9 @@
 use native.Mathlib.Omega.{arith}
 use borrow.Author.Needs.{needs}
 use Prim.Native.Nat.{_-_}
-use Rattle.steps.specs.Rows.{Dotted, dotted-none, dotted-more, dotted-all}
-use Rattle.steps.proofs.kernel.dot.Statement.{statement}
-use Rattle.steps.proofs.kernel.dot.Tie as tie
+use Rattle.kernel.specs.Rows.{Dotted, dotted-none, dotted-more, dotted-all}
+use Rattle.kernel.proofs.dot.Statement.{statement}
+use Rattle.kernel.proofs.dot.Tie as tie
 
 abbrev Inv-loop : tie.InvT-loop
 Inv-loop m v b d sums j products sum₀ l₀ sum l = Dotted m d v b sums j l sum

@@ -1,9 +1,9 @@
 -- `kernel::eliminate` meets its contract: where no vector misses the window nothing has to change, and else only the pivot dies.
 -- Assumes nothing.
 use native.Mathlib.Omega.{arith}
-use Rattle.steps.specs.Elimination.{clearing-none, eliminated-same}
-use Rattle.steps.proofs.kernel.eliminate.Statement.{statement}
-use Rattle.steps.proofs.kernel.eliminate.Tie as tie
+use Rattle.kernel.specs.Elimination.{clearing-none, eliminated-same}
+use Rattle.kernel.proofs.eliminate.Statement.{statement}
+use Rattle.kernel.proofs.eliminate.Tie as tie
 
 pivot-requires : tie.Need-pivot-requires
 pivot-requires c κs = omega arith

@@ -4,9 +4,9 @@
 use native.Mathlib.Omega.{arith}
 use Prim.Native.Nat.{_-_}
 use mathlib.Core.Logic.{⊎-elim}
-use Rattle.steps.specs.Elimination.{Passed, passed-none, passed-dead, passed-zero, pivot-found, pivot-none}
-use Rattle.steps.proofs.kernel.pivot.Statement.{statement}
-use Rattle.steps.proofs.kernel.pivot.Tie as tie
+use Rattle.kernel.specs.Elimination.{Passed, passed-none, passed-dead, passed-zero, pivot-found, pivot-none}
+use Rattle.kernel.proofs.pivot.Statement.{statement}
+use Rattle.kernel.proofs.pivot.Tie as tie
 
 abbrev Inv-loop : tie.InvT-loop
 Inv-loop m v alive d sums j s₀ s = Passed m d sums j v alive s

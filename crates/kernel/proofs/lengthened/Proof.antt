@@ -6,8 +6,8 @@ use Prim.Native.Nat.{_-_, _≤_}
 use mathlib.Core.Path.{_≡_, refl}
 use Rattle.algebra.specs.Tests.{at}
 use Rattle.algebra.specs.Lists.{Filled, filled-none, filled-more}
-use Rattle.steps.proofs.kernel.lengthened.Statement.{statement}
-use Rattle.steps.proofs.kernel.lengthened.Tie as tie
+use Rattle.kernel.proofs.lengthened.Statement.{statement}
+use Rattle.kernel.proofs.lengthened.Tie as tie
 
 abbrev Inv-loop : tie.InvT-loop
 Inv-loop sums r₀ l₀ r l = (l ≤ 16) × Filled 24 (at sums) l r

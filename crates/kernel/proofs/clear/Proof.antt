@@ -4,9 +4,9 @@
 use native.Mathlib.Omega.{arith}
 use Prim.Native.Nat.{_-_}
 use mathlib.Core.Logic.{⊎-elim}
-use Rattle.steps.specs.Elimination.{Clearing, clearing-dead, clearing-more, eliminated-more}
-use Rattle.steps.proofs.kernel.clear.Statement.{statement}
-use Rattle.steps.proofs.kernel.clear.Tie as tie
+use Rattle.kernel.specs.Elimination.{Clearing, clearing-dead, clearing-more, eliminated-more}
+use Rattle.kernel.proofs.clear.Statement.{statement}
+use Rattle.kernel.proofs.clear.Tie as tie
 
 abbrev Inv-loop : tie.InvT-loop
 Inv-loop m v₀ alive d sums j p x s₀ v s = Clearing m d sums j p x s v alive
