@@ -10,11 +10,8 @@ use crate::Setting;
 use crate::count::count_bits;
 use crate::count::count_errors;
 use crate::count::count_marks;
-<<<<<<< HEAD
 use buffers::copy;
-=======
 use kernel::kernel;
->>>>>>> 39a5615ba410e4155b5d5e76027aff290366a841
 use steps::correct::correct;
 use steps::locate::candidates;
 use steps::locate::locators;
