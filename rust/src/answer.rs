@@ -1,6 +1,5 @@
 //! What a call answers.
 
-use core::error::Error;
 use core::fmt;
 
 use crate::ffi;
@@ -61,7 +60,8 @@ impl fmt::Display for Refusal {
     }
 }
 
-impl Error for Refusal {}
+#[cfg(feature = "std")]
+impl std::error::Error for Refusal {}
 
 /// What an accepted word was found to have.
 #[derive(Clone, Copy, Debug, Default, PartialEq, Eq, Hash)]

@@ -1,6 +1,5 @@
 //! Frames: a payload and its sequence number as interleaved words.
 
-use core::error::Error;
 use core::fmt;
 
 use crate::answer::{answered, narrow, Figures, Refusal};
@@ -69,7 +68,8 @@ impl fmt::Display for Refused {
     }
 }
 
-impl Error for Refused {}
+#[cfg(feature = "std")]
+impl std::error::Error for Refused {}
 
 impl Setting {
     /// The slots of a frame.

@@ -2,6 +2,8 @@
 //!
 //! `tools/figures` makes the archive and runs this; the table it prints stands in docs/PERFORMANCE.md. Times vary from
 //! machine to machine and from hour to hour. The ratios are what to look at: every row measures all codecs in turn.
+// The library is for Debian's Rust, 1.63; figures are taken with a newer one, which has `black_box`.
+#![allow(clippy::incompatible_msrv)]
 
 mod codecs;
 #[cfg(feature = "libfec")]

@@ -101,7 +101,7 @@ fn sent_damaged_and_received() {
         damage(&mut noise, s, &mut slots, &mut marks, beyond);
         let answer = received(s, &slots, &marks, &noise.bytes(room + 4));
         if beyond.is_none() {
-            assert!(answer.is_ok_and(|f| f.payload == payload && f.sequence == sequence), "{s:?}");
+            assert!(matches!(answer, Ok(f) if f.payload == payload && f.sequence == sequence), "{s:?}");
         }
     }
     println!("1500 frames each way");

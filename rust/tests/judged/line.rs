@@ -15,7 +15,7 @@ fn setting(noise: &mut Noise) -> Setting {
     loop {
         let branches = noise.between(2, 16);
         let n = branches * noise.between(1, 255 / branches);
-        let least = n.div_ceil(branches);
+        let least = n / branches;
         let unit = *[least, 128, noise.between(least, 128)].get(noise.below(3)).unwrap_or(&least);
         let s = Setting { branches, unit, n };
         if plain(s).is_allowed() {
@@ -127,7 +127,7 @@ fn words_under_a_run_of_damage() {
         for (message, word) in messages.iter().zip(out.chunks_mut(204)) {
             let (mut word, marks): (Vec<u8>, Vec<u8>) = word.iter().copied().unzip();
             let answer = code.decode(&mut word, &marks);
-            assert!(answer.is_ok_and(|figures| figures.errors <= 8 && figures.marked == 0), "round {round}");
+            assert!(matches!(answer, Ok(f) if f.errors <= 8 && f.marked == 0), "round {round}");
             assert_eq!(word[..188], message[..]);
         }
     }

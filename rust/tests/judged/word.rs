@@ -88,7 +88,7 @@ fn decode_around_the_bound() {
                 let (answer, left) = decoded(s, &word, &marks);
                 if 2 * e + f <= s.r {
                     assert_eq!(left, sent, "{s:?} f {f} e {e}");
-                    assert!(answer.is_ok_and(|a| (a.errors, a.marked) == (e, f)), "{s:?} f {f} e {e}");
+                    assert!(matches!(answer, Ok(a) if (a.errors, a.marked) == (e, f)), "{s:?} f {f} e {e}");
                 }
                 let before = old(&mut noise, s.n - s.r);
                 assert_eq!(decoded_part(s, &word, &marks, &before), answer);
