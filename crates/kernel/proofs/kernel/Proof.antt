@@ -4,8 +4,7 @@
 use native.Mathlib.Omega.{arith}
 use borrow.Author.Needs.{needs}
 use Prim.Native.Nat.{_+_, _-_, _≤_}
-use mathlib.Core.Path.{_≡_, refl}
-use lib.ListN.{length}
+use mathlib.Core.Path.{refl}
 use Rattle.algebra.specs.Tests.{each}
 use Rattle.kernel.specs.Elimination.{Eliminated, eliminated-none, kernel-vector}
 use Rattle.kernel.proofs.kernel.Statement.{statement}

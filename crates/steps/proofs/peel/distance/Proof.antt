@@ -1,7 +1,6 @@
 -- `steps::peel::distance` meets its contract. The loop's invariant (`Nearing`): what is multiplied, times the differences that are left, is
 -- the distance. The measure is the number of places left.
 -- Assumes nothing.
-use mathlib.Core.Path.{_≡_}
 use mathlib.Core.Logic.{⊎-elim}
 use mathlib.Core.List.{List}
 use Prim.Native.Nat.{ℕ, _-_, _≤_}

@@ -2,7 +2,6 @@
 -- to peel the places that are left, from a sequence that the sums agree with as far as they count, is to peel all. The measure is the
 -- number of places left.
 -- Assumes nothing.
-use mathlib.Core.Path.{_≡_}
 use mathlib.Core.Logic.{⊎-elim}
 use mathlib.Core.List.{List}
 use Prim.Native.Nat.{ℕ, _-_, _≤_}

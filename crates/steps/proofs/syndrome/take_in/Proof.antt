@@ -1,6 +1,6 @@
 -- `steps::syndrome::take_in` meets its contract. The loop's invariant: the symbol is added to the products before `j`.
 -- Assumes nothing.
-use mathlib.Core.Path.{_≡_, refl}
+use mathlib.Core.Path.{refl}
 use Prim.Native.Nat.{_-_, _≤_}
 use native.Mathlib.Omega.{arith}
 use borrow.Author.Needs.{needs}
