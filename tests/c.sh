@@ -43,10 +43,9 @@ run() { # PROGRAM
 build tests/c/calls.c "$work/calls" && run "$work/calls" || { echo "tests/c/calls.c does not hold"; status=1; }
 
 # README.md's C program: its one block of C, which ends with status 0 where it got its payload back.
-if grep -q '^## Use it from C$' README.md; then
-  sed -n '/^```c$/,/^```$/p' README.md | sed '/^```/d' >"$work/readme.c"
-  build "$work/readme.c" "$work/readme" && run "$work/readme" >/dev/null || { echo "README.md's C program does not work as it stands"; status=1; }
-fi
+sed -n '/^## Use it from C$/,/^## Where/p' README.md | sed -n '/^```c$/,/^```$/p' | sed '/^```/d' >"$work/readme.c"
+[ -s "$work/readme.c" ] || { echo "README.md has no C program under 'Use it from C'"; status=1; }
+build "$work/readme.c" "$work/readme" && run "$work/readme" >/dev/null || { echo "README.md's C program does not work as it stands"; status=1; }
 
 if command -v c++ >/dev/null; then
   echo '#include "yaxopetzo.h"' >"$work/alone.cpp"
