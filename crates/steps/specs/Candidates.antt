@@ -15,8 +15,8 @@ use Rattle.algebra.specs.Lists.{Filled, filled-more}
 use Rattle.algebra.specs.Horner.{pow}
 use Rattle.algebra.specs.Polynomials.{ev, ev-ext}
 use Rattle.field.specs.Elements.{wide, K, prod}
-use Rattle.steps.specs.Places.{locator, Locators}
-use Rattle.steps.specs.Syndromes.{laneAfter}
+use Rattle.peeling.specs.Places.{locator, Locators}
+use Rattle.checks.specs.Syndromes.{laneAfter}
 
 -- a place is marked, or the polynomial's value y there is the field's zero
 abbrev pub Possible : (m mark y : ℕ) → Type 0

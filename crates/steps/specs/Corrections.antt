@@ -21,9 +21,10 @@ use Rattle.algebra.specs.Horner.{pow, coef}
 use Rattle.field.specs.Field.{modulus}
 use Rattle.field.specs.Products.{product-one, product-below}
 use Rattle.field.specs.Elements.{K, wide, prod, known, one-below, two-below, prod-small}
-use Rattle.steps.specs.Places.{locator, spots, spare}
-use Rattle.steps.specs.Peeling.{peeledOf, distanceOf}
-use Rattle.steps.specs.Listing.{Listed}
+use Rattle.checks.specs.Roots.{spots}
+use Rattle.peeling.specs.Places.{locator, spare}
+use Rattle.peeling.specs.Peeling.{peeledOf, distanceOf}
+use Rattle.peeling.specs.Listing.{Listed}
 
 -- the weight of coefficient k in the first power sum of a code whose roots begin at a^b
 abbrev pub weightOf : ℕ → ℕ → ℕ → ℕ

@@ -1,14 +1,14 @@
 // The values at the flagged places of a word, and the word and its power sums without them.
 ghost use mathlib.Core.Path.{_≡_};
 ghost use Prim.Native.Nat.{_<_, _≤_};
-ghost use Rattle.steps.specs.Places.{Locators};
-ghost use Rattle.steps.specs.Listing.{Inside};
+ghost use Rattle.peeling.specs.Places.{Locators};
+ghost use Rattle.peeling.specs.Listing.{Inside};
 ghost use Rattle.steps.specs.Corrections.{Weighs, ErrorListed, TakenOut, Corrected};
-use crate::peel::distance;
-use crate::peel::list;
-use crate::peel::peel_listed;
 use field::shifts::times;
 use field::tables::inverse_at;
+use peeling::distance;
+use peeling::list;
+use peeling::peel_listed;
 
 // The weight of a place of locator x in the first power sum of a code whose roots begin at a^b: x^b.
 fn weight(b: usize, x: u8) -> u8

@@ -6,7 +6,7 @@ ghost use Rattle.algebra.specs.Tests.{at};
 ghost use Rattle.algebra.specs.Lists.{Filled};
 ghost use Rattle.algebra.specs.Polynomials.{ev};
 ghost use Rattle.field.specs.Elements.{K};
-ghost use Rattle.steps.specs.Places.{Locators};
+ghost use Rattle.peeling.specs.Places.{Locators};
 ghost use Rattle.steps.specs.Candidates.{flagOf, raisedAt, Candidates};
 use field::shifts::double;
 use field::shifts::low;

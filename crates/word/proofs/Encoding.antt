@@ -14,7 +14,7 @@ use Rattle.word.specs.Distance.{own-field}
 use Rattle.word.specs.Completion.{codeword-from}
 use Rattle.word.specs.Code.{encoded}
 use Rattle.word.specs.Code.Laws.{encoded-only}
-use Rattle.steps.specs.Checks.{Checks}
+use Rattle.checks.specs.Checks.{Checks}
 use Rattle.word.specs.declared.Setting.{Setting}
 
 module _ (s : Setting) (ok : T (allowed s)) (message checks : List ℕ) (size : length message ≡ messageSize s) (room : length checks ≡ 16) where

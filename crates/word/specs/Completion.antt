@@ -16,7 +16,7 @@ use Rattle.field.specs.Field.{modulus}
 use Rattle.field.specs.Products.{product-below}
 use Rattle.field.specs.Elements.{wide, known, K}
 use Rattle.word.specs.Setting.{Allowed}
-use Rattle.steps.specs.Places.{root}
+use Rattle.checks.specs.Roots.{root}
 use Rattle.word.specs.Codeword.{isCodeword, Codeword, is-codeword}
 use Rattle.word.specs.Distance.{own-field, value-at-root, root-value-below}
 use Rattle.word.specs.declared.Setting.{Setting}

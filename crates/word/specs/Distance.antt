@@ -25,7 +25,8 @@ use Rattle.field.specs.Products.{product-below}
 use Rattle.field.specs.Powers.{power-below}
 use Rattle.field.specs.Elements.{wide, known, K, pow-power, two-nz, order}
 use Rattle.word.specs.Setting.{Allowed, named}
-use Rattle.steps.specs.Places.{spots, flagged}
+use Rattle.checks.specs.Roots.{spots}
+use Rattle.peeling.specs.Places.{flagged}
 use Rattle.word.specs.Word.{valueFrom, value, errorAt, errorOf-same, errorOf-wrong, errors, marked, bitsAt, bits}
 use Rattle.word.specs.Codeword.{Codeword, Near}
 use Rattle.word.specs.declared.Setting.{Setting}

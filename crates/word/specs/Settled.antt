@@ -18,8 +18,8 @@ use Rattle.word.specs.Code.{corrected}
 use Rattle.word.specs.Code.Laws.{corrected-only, corrected-none}
 use Rattle.word.specs.Answers.{figures}
 use Rattle.word.specs.Answers.Laws.{Checked}
-use Rattle.steps.specs.Syndromes.{Syndromes, allZero, allZero-at, allZero-yes}
-use Rattle.steps.specs.Peeling.{PeeledAll}
+use Rattle.checks.specs.Syndromes.{Syndromes, allZero, allZero-at, allZero-yes}
+use Rattle.peeling.specs.Peeling.{PeeledAll}
 use Rattle.kernel.specs.Elimination.{KernelVector}
 use Rattle.steps.specs.Candidates.{Candidates}
 use Rattle.steps.specs.Corrections.{Corrected}

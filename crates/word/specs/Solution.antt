@@ -23,14 +23,15 @@ use Rattle.algebra.specs.Horner.{pow, horner, coef, syndromes}
 use Rattle.algebra.specs.Decoding.{Run, cand, others, cand-few, decoded}
 use Rattle.field.specs.Elements.{wide, K}
 use Rattle.word.specs.Setting.{Allowed, limits}
-use Rattle.steps.specs.Places.{locator, spots, flagged, spare}
+use Rattle.checks.specs.Roots.{spots}
+use Rattle.peeling.specs.Places.{locator, flagged, spare}
 use Rattle.word.specs.Word.{marked}
 use Rattle.word.specs.Codeword.{Codeword, Near}
 use Rattle.word.specs.Distance.{own-field, spots-apart, codeword-sums, marks-few, errors-few}
 use Rattle.word.specs.Completion.{codeword-from}
 use Rattle.word.specs.Answers.Laws.{Checked}
-use Rattle.steps.specs.Syndromes.{Syndromes, syndromes-sums}
-use Rattle.steps.specs.Peeling.{PeeledAll}
+use Rattle.checks.specs.Syndromes.{Syndromes, syndromes-sums}
+use Rattle.peeling.specs.Peeling.{PeeledAll}
 use Rattle.kernel.specs.Elimination.{KernelVector}
 use Rattle.steps.specs.Candidates.{Candidates}
 use Rattle.steps.specs.Corrections.{Fixed, Corrected, weightOf}

@@ -7,10 +7,10 @@ ghost use Rattle.word.specs.Answers.Laws.{Refuses};
 use buffers::all_below;
 use buffers::copy;
 use buffers::join;
+use checks::register::check_symbols;
 use limits::refusal;
 use limits::symbols_of;
 use settle::settle;
-use steps::register::check_symbols;
 
 mod count;
 mod limits;

@@ -11,13 +11,13 @@ use crate::count::count_bits;
 use crate::count::count_errors;
 use crate::count::count_marks;
 use buffers::copy;
+use checks::syndrome::all_zero;
+use checks::syndrome::syndromes;
 use kernel::kernel;
+use peeling::peel_all;
 use steps::correct::correct;
 use steps::locate::candidates;
 use steps::locate::locators;
-use steps::peel::peel_all;
-use steps::syndrome::all_zero;
-use steps::syndrome::syndromes;
 
 // Whether a codeword was found, and its figures.
 pub struct Settled {

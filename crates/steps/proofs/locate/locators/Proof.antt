@@ -4,7 +4,7 @@ use mathlib.Core.Path.{_≡_, refl, _∙_}
 use Prim.Native.Nat.{_-_, _<_, _≤_}
 use native.Mathlib.Omega.{arith}
 use borrow.Author.Needs.{needs}
-use Rattle.steps.specs.Places.{locator}
+use Rattle.peeling.specs.Places.{locator}
 use Rattle.steps.specs.Candidates.{Backed, backed-none, backed-more, locator-last, locator-next}
 use Rattle.steps.proofs.locate.locators.Statement.{statement}
 use Rattle.steps.proofs.locate.locators.Tie as tie
