@@ -12,7 +12,6 @@ use limits::refusal;
 use limits::symbols_of;
 use settle::settle;
 
-mod count;
 mod limits;
 mod settle;
 

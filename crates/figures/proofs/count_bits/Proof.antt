@@ -1,4 +1,4 @@
--- `word::count::count_bits` meets its contract. The loop's invariant: `sum` is the sum over the places before `i`, each at most 8.
+-- `figures::count_bits` meets its contract. The loop's invariant: `sum` is the sum over the places before `i`, each at most 8.
 -- Assumes nothing.
 use mathlib.Core.Path.{_≡_, refl, _∙_}
 use Prim.Native.Nat.{_-_, _*_, _≤_}
@@ -6,9 +6,9 @@ use native.Mathlib.Omega.{arith}
 use borrow.Author.Needs.{needs}
 use lib.ListN.{length}
 use Rattle.algebra.specs.Tests.{total, total-more}
-use Rattle.word.specs.Word.{bitsAt, bits-to}
-use Rattle.word.proofs.count.count_bits.Statement.{statement}
-use Rattle.word.proofs.count.count_bits.Tie as tie
+use Rattle.figures.specs.Figures.{bitsAt, bits-to}
+use Rattle.figures.proofs.count_bits.Statement.{statement}
+use Rattle.figures.proofs.count_bits.Tie as tie
 
 abbrev Inv-loop : tie.InvT-loop
 Inv-loop received word sum₀ i₀ sum i = (i ≤ length received) × (sum ≤ 8 * i) × (sum ≡ total i (bitsAt received word))

@@ -1,4 +1,4 @@
--- `word::count::count_errors` meets its contract. The loop's invariant: `e` is the sum over the places before `i`, each at most 1.
+-- `figures::count_errors` meets its contract. The loop's invariant: `e` is the sum over the places before `i`, each at most 1.
 -- Assumes nothing.
 use mathlib.Core.Path.{_≡_, refl, _∙_}
 use Prim.Native.Nat.{_-_, _≤_}
@@ -6,9 +6,9 @@ use native.Mathlib.Omega.{arith}
 use borrow.Author.Needs.{needs}
 use lib.ListN.{length}
 use Rattle.algebra.specs.Tests.{total, total-more}
-use Rattle.word.specs.Word.{errorAt, errors-to}
-use Rattle.word.proofs.count.count_errors.Statement.{statement}
-use Rattle.word.proofs.count.count_errors.Tie as tie
+use Rattle.figures.specs.Figures.{errorAt, errors-to}
+use Rattle.figures.proofs.count_errors.Statement.{statement}
+use Rattle.figures.proofs.count_errors.Tie as tie
 
 abbrev Inv-loop : tie.InvT-loop
 Inv-loop marks received word e₀ i₀ e i = (i ≤ length received) × (e ≤ i) × (e ≡ total i (errorAt marks received word))

@@ -1,12 +1,12 @@
--- `word::count::count_marks` meets its contract. The loop's invariant: `f` is the sum of the marks before `i`, each at most 1.
+-- `figures::count_marks` meets its contract. The loop's invariant: `f` is the sum of the marks before `i`, each at most 1.
 -- Assumes nothing.
 use mathlib.Core.Path.{_≡_, refl}
 use Prim.Native.Nat.{_-_, _≤_}
 use native.Mathlib.Omega.{arith}
 use lib.ListN.{length}
 use Rattle.algebra.specs.Tests.{at, total, total-more, below-at}
-use Rattle.word.proofs.count.count_marks.Statement.{statement}
-use Rattle.word.proofs.count.count_marks.Tie as tie
+use Rattle.figures.proofs.count_marks.Statement.{statement}
+use Rattle.figures.proofs.count_marks.Tie as tie
 
 abbrev Inv-loop : tie.InvT-loop
 Inv-loop marks f₀ i₀ f i = (i ≤ length marks) × (f ≤ i) × (f ≡ total i (at marks))

@@ -1,4 +1,5 @@
 // Document 01, "Word code": the figures of a decoded word. They count the unmarked places that changed, the marks, and the bits that changed.
+// They are inner calls of the crate `word`, which checks every setting before it makes them; what they ask of their callers is in their `requires`.
 ghost use mathlib.Core.Path.{_≡_};
 ghost use Prim.Native.Nat.{_*_, _≤_};
 ghost use lib.ListN.{length};
@@ -6,7 +7,7 @@ ghost use lib.Dec.{T};
 ghost use lib.Count.{ones};
 ghost use Rattle.algebra.specs.Xor.{_⊕_};
 ghost use Rattle.algebra.specs.Tests.{at, total, below};
-ghost use Rattle.word.specs.Word.{errorOf, errors, bits};
+ghost use Rattle.figures.specs.Figures.{errorOf, errors, bits};
 
 // 1 where a place is unmarked and its two symbols differ, else 0.
 fn error_at(mark: u8, x: u8, y: u8) -> usize

@@ -1,4 +1,4 @@
--- `word::count::bits_at` meets its contract: the exclusive or of two bytes is below 2^8, so it has at most 8 ones.
+-- `figures::bits_at` meets its contract: the exclusive or of two bytes is below 2^8, so it has at most 8 ones.
 -- Assumes nothing.
 use mathlib.Core.Path.{refl}
 use native.Mathlib.Omega.{arith}
@@ -6,8 +6,8 @@ use Prim.Native.Nat.{ℕ, _≤_, _<_}
 use lib.Bits.{bitXor, xor-lt}
 use lib.Count.{ones, ones-le}
 use Rattle.algebra.specs.Xor.{_⊕_}
-use Rattle.word.proofs.count.bits_at.Statement.{statement}
-use Rattle.word.proofs.count.bits_at.Tie as tie
+use Rattle.figures.proofs.bits_at.Statement.{statement}
+use Rattle.figures.proofs.bits_at.Tie as tie
 
 few : (x y : ℕ) → x < 256 → y < 256 → ones (bitXor x y) ≤ 8
 few x y h k = ones-le 8 _ (xor-lt 8 x y h k)

@@ -1,10 +1,10 @@
--- `word::count::error_at` meets its contract: each way out is one law of the definition.
+-- `figures::error_at` meets its contract: each way out is one law of the definition.
 -- Assumes nothing.
 use mathlib.Core.Path.{sym}
 use native.Mathlib.Omega.{arith}
-use Rattle.word.specs.Word.{errorOf-marked, errorOf-same, errorOf-wrong}
-use Rattle.word.proofs.count.error_at.Statement.{statement}
-use Rattle.word.proofs.count.error_at.Tie as tie
+use Rattle.figures.specs.Figures.{errorOf-marked, errorOf-same, errorOf-wrong}
+use Rattle.figures.proofs.error_at.Statement.{statement}
+use Rattle.figures.proofs.error_at.Tie as tie
 
 returns : tie.Need-returns
 returns c = (sym (errorOf-marked _ _ _ (c .if1 .taken)), omega arith)
