@@ -19,10 +19,10 @@ use Rattle.word.specs.Code.{encoded}
 use Rattle.word.specs.Answers.{Outcome, outcome, noFigures, figures}
 use Rattle.word.specs.declared.Figures.{Figures}
 use Rattle.word.specs.declared.Decoded.the-variants.{Done}
-use Rattle.cross.specs.Cross.{outerCode, innerCode, outerWord, due, opened, passedOn, markOf, orZeros, closed, received}
-use Rattle.cross.specs.Codes.{outer-allowed, inner-allowed, outer-encoded, inner-encoded}
-use Rattle.cross.specs.Calls.{SenderCalls, dueSent, sent-held, sends, ReceiverCalls, dueBytes, dueMarks, bytes-held, marks-held, receives}
-use Rattle.cross.specs.declared.receiver.Received.{Received}
+use Rattle.crossing.specs.Cross.{outerCode, innerCode, outerWord, due, opened, passedOn, markOf, orZeros, closed, received}
+use Rattle.crossing.specs.Codes.{outer-allowed, inner-allowed, outer-encoded, inner-encoded}
+use Rattle.crossing.specs.Calls.{SenderCalls, dueSent, sent-held, sends, ReceiverCalls, dueBytes, dueMarks, bytes-held, marks-held, receives}
+use Rattle.crossing.specs.declared.position.Received.{Received}
 use Rattle.coverage.specs.Words.{encoded-code, encoded-size, encoded-message, Came, part-given}
 
 -- ---- the statement
