@@ -103,7 +103,7 @@ pub fn close_outer(bytes: &[u8], marks: &[u8], message: &mut [u8]) -> Found
 {
     let d = decode_part(outer_code(), bytes, marks, message);
     if number_of(d) != 0 {
-        fill(message, 0);
+        fill(&mut message[0..24], 0);
         return Found {
             answer: 4,
             figures: no_figures(),
