@@ -5,24 +5,22 @@ use mathlib.Core.List.{List}
 use Prim.Native.Nat.{ℕ, _+_, _-_, _*_, _≤_, _<_}
 use native.Mathlib.Decide.{decLt}
 use native.Mathlib.Omega.{arith}
-use lib.Count.{ones}
 use lib.Dec.{T, lit<}
 use lib.ListN.{length, take, replicate, length-replicate, getD-replicate}
 use lib.Seq.{ext-getD, length-take-le}
-use Rattle.algebra.specs.Xor.{self}
 use Rattle.algebra.specs.Tests.{at, below, below-at, below-all}
 use Rattle.algebra.specs.Lists.{length-tabulate}
-use Rattle.word.specs.Word.{errors, marked, bits, bitsAt}
+use Rattle.word.specs.Word.{errors, marked}
 use Rattle.word.specs.Codeword.{isCodeword, codeword}
-use Rattle.word.specs.Distance.{total-zero, errors-self}
+use Rattle.word.specs.Distance.{total-zero, errors-self, bits-self}
 use Rattle.word.specs.Code.{encoded}
 use Rattle.word.specs.Answers.{Outcome, outcome, noFigures, figures}
 use Rattle.word.specs.declared.Figures.{Figures}
 use Rattle.word.specs.declared.Decoded.the-variants.{Done}
-use Rattle.cross.specs.Cross.{outerCode, innerCode, outerWord, due, opened, passedOn, markOf, orZeros, closed, received}
-use Rattle.cross.specs.Codes.{outer-allowed, inner-allowed, outer-encoded, inner-encoded}
-use Rattle.cross.specs.Calls.{SenderCalls, dueSent, sent-held, sends, ReceiverCalls, dueBytes, dueMarks, bytes-held, marks-held, receives}
-use Rattle.cross.specs.declared.receiver.Received.{Received}
+use Rattle.crossing.specs.Cross.{outerCode, innerCode, outerWord, due, opened, passedOn, markOf, orZeros, closed, received}
+use Rattle.crossing.specs.Codes.{outer-allowed, inner-allowed, outer-encoded, inner-encoded}
+use Rattle.crossing.specs.Calls.{SenderCalls, dueSent, sent-held, sends, ReceiverCalls, dueBytes, dueMarks, bytes-held, marks-held, receives}
+use Rattle.crossing.specs.declared.position.Received.{Received}
 use Rattle.coverage.specs.Words.{encoded-code, encoded-size, encoded-message, Came, part-given}
 
 -- ---- the statement
@@ -54,10 +52,6 @@ zeros-below n = below-all 2 (replicate n 0) λ i h. let z = zeros-at n i (rw (le
 none-marked : (n : ℕ) (word : List ℕ) → length word ≡ n → marked (replicate n 0) word ≡ 0
 unfolding marked
 none-marked n word e = total-zero (length word) (at (replicate n 0)) λ i h. zeros-at n i (omega arith)
-
-bits-self : (word : List ℕ) → bits word word ≡ 0
-unfolding bits ones
-bits-self word = total-zero (length word) (bitsAt word word) λ i h. ap ones (self (at word i))
 
 no-figures : (word : List ℕ) → length word ≡ 28 → figures (replicate 28 0) word word ≡ noFigures
 no-figures word e = rw (errors-self (replicate 28 0) word, none-marked 28 word e, bits-self word)

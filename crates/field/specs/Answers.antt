@@ -8,16 +8,11 @@ use Rattle.field.specs.Field.{mul, a^}
 use Rattle.field.specs.declared.Element.{Element}
 use Rattle.field.specs.declared.Element.the-variants.{Is, BadField, BadSymbol}
 
--- this paper's number of an answer, and its value: 0 where it is a refusal
+-- this paper's number of an answer
 abbrev pub numberOf : Element → ℕ
 numberOf (Is x) = 0
 numberOf BadField = 1
 numberOf BadSymbol = 3
-
-abbrev pub valueOf : Element → ℕ
-valueOf (Is x) = x
-valueOf BadField = 0
-valueOf BadSymbol = 0
 
 unfoldable pub isField : ℕ → Bool
 isField m = eqb m 3 || eqb m 8

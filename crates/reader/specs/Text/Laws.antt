@@ -1,17 +1,14 @@
 -- How long the pieces of text are, and bytes in base sixteen one after the other.
 -- Assumes nothing.
 use mathlib.Core.Path.{_≡_, refl}
-use mathlib.Core.Bool.{Bool, true, false}
 use mathlib.Core.List.{List, [], _∷_, _++_}
 use Prim.Native.Nat.{ℕ, zero, suc, _+_, _*_, _≤_, _<_}
 use native.Mathlib.Nat.{not-suc-le-zero, le-of-suc-le-suc}
 use native.Mathlib.Numerals.{add-one}
 use native.Mathlib.Omega.{arith}
 use borrow.Author.Tests.{lt-ltb, le-ltb}
-use lib.Dec.{ltb}
-use lib.ListN.{length, getD, take, length-append}
-use Rattle.algebra.specs.Tests.{if_then_else_}
-use Rattle.reader.specs.Text.{digit, digitFrom, decimal, hexDigit, hex, hexes}
+use lib.ListN.{length, getD, take}
+use Rattle.reader.specs.Text.{digit, digitFrom, hexDigit, hex, hexes}
 
 -- ---- decimal
 
@@ -23,18 +20,6 @@ module _ (n unit : ℕ) where
   pub digit-there : unit ≤ n → digitFrom n unit ≡ digit n unit ∷ []
   unfolding digitFrom
   digit-there l = rw (le-ltb n unit l)
-
-  pub digit-size : length (digitFrom n unit) ≤ 1
-  unfolding digitFrom
-  digit-size = go (ltb n unit)
-    where
-      go : (t : Bool) → length (if t then [] else digit n unit ∷ []) ≤ 1
-      go true = omega arith
-      go false = omega arith
-
-pub decimal-size : (n : ℕ) → length (decimal n) ≤ 5
-unfolding decimal
-decimal-size n = simp length-append (omega (arith, digit-size n 10000, digit-size n 1000, digit-size n 100, digit-size n 10))
 
 -- ---- base sixteen
 
