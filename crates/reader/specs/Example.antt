@@ -3,7 +3,7 @@
 use mathlib.Core.Path.{_≡_}
 use mathlib.Core.List.{List, [], _∷_}
 use Prim.Native.Nat.{ℕ}
-use Rattle.link.specs.FrameExample.{received-example}
+use Rattle.frame_in.specs.FrameExample.{received-example}
 use Rattle.frame.specs.Lists.{joined}
 use Rattle.reader.specs.Text.{bytes, digitFrom, decimal, hexDigit, hex, hexes}
 use Rattle.reader.specs.Spoken.{named, firstLine, wordLine, wordLines, frameText, blank, answerTo, told, spoken}
