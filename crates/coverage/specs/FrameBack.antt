@@ -20,8 +20,8 @@ use Rattle.frame.specs.Slots.{wordIn, word-back}
 use Rattle.frame.specs.Frame.{wordSetting, areaSize, allowedFrame, two, twoAt, trailer, areaSent, wordSent, slotsSent, trailerGood, correctedWord, isNone, messageOf, beyond, areaReceived, figuresReceived, payloadOf, answered, received, numberOf}
 use Rattle.frame.specs.Frame.Limits.{FrameAllowed, frame-kept, area-few}
 use Rattle.frame.specs.Frame.Trailer.{length-sent, sent-zero, sent-trailer, zeros-all, good-within, payload-there}
-use Rattle.link.specs.Sending.{send-done, send-once}
-use Rattle.link.specs.Receiving.{settled-good, decoded-settled, receive-decoded, receive-once}
+use Rattle.frame_out.specs.Sending.{send-done, send-once}
+use Rattle.frame_in.specs.Receiving.{settled-good, decoded-settled, receive-decoded, receive-once}
 use Rattle.frame.specs.declared.setting.Framing.{Framing}
 use Rattle.frame.specs.declared.setting.Received.{Received}
 use Rattle.frame.specs.declared.setting.Sent.the-variants as S

@@ -10,7 +10,7 @@ use lib.ListN.{replicate}
 use Rattle.algebra.specs.Tests.{total, below}
 use Rattle.algebra.specs.Lists.{tabulate}
 use Rattle.word.specs.Word.{errorOf, errors, marked}
-use Rattle.link.specs.FrameExample.{example, slotsOut, slotsIn, sent-example}
+use Rattle.frame_in.specs.FrameExample.{example, slotsOut, slotsIn, sent-example}
 use Rattle.frame.specs.declared.setting.Sent.the-variants.{Done}
 use Rattle.coverage.specs.Frame.{Frame, FrameWithin, Arrives}
 

@@ -17,8 +17,8 @@ use Rattle.frame.specs.declared.setting.Framing.{Framing}
 use Rattle.frame.specs.declared.setting.Received.{Received}
 use Rattle.frame.specs.declared.setting.Verdict.{Verdict}
 use Rattle.frame.specs.declared.setting.Verdict.the-variants.{Done, BadSetting, BadLength, BadMark, BeyondReach, BadTrailer}
-use Rattle.link.specs.Sending.{send-once}
-use Rattle.link.specs.Receiving.{receive-once}
+use Rattle.frame_out.specs.Sending.{send-once}
+use Rattle.frame_in.specs.Receiving.{receive-once}
 use Rattle.face.specs.Shown.{Shows, shown-once}
 use Rattle.face.specs.declared.frames.FrameSetting.{FrameSetting}
 use Rattle.face.specs.declared.frames.FrameAnswer.{FrameAnswer}

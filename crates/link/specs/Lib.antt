@@ -1,5 +1,1 @@
-pub mod Sending
-pub mod Decoding
-pub mod Receiving
-pub mod FrameExample
 pub mod Receiver

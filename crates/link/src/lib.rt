@@ -1,9 +1,8 @@
 // The link: document 01, sections Block interleaver and frame, and Receiver's record. A payload and its sequence number are sent as one
 // frame of interleaved words; a received frame is decoded into a lent message area, which then holds the payload; and what each frame was
-// answered is noted in the receiver's record.
+// answered is noted in the receiver's record. Sending stands in `frame_out` and receiving in `frame_in`, so that each is proved apart.
+mod part;
 mod receiver;
-mod receiving;
-mod sending;
 
 // Frames.
 pub use frame::setting::Framing;
@@ -12,9 +11,9 @@ pub use frame::setting::Sent;
 pub use frame::setting::Verdict;
 pub use frame::setting::is_allowed;
 pub use frame::trailer::payload;
-pub use receiving::receive;
-pub use receiving::receive_part;
-pub use sending::send;
+pub use frame_in::receive;
+pub use frame_out::send;
+pub use part::receive_part;
 
 // The receiver's record.
 pub use record::Kind;

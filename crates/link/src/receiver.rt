@@ -2,10 +2,10 @@
 // was answered is noted in the record, so that no caller notes another number. What each call promises is defined in specs/Receiver.antt.
 ghost use mathlib.Core.Path.{_≡_};
 ghost use Rattle.link.specs.Receiver.{heard, hearOutcome};
-use crate::receiving::receive;
 use frame::numbers::number_of;
 use frame::setting::Framing;
 use frame::setting::Received;
+use frame_in::receive;
 use record::Record;
 use record::note;
 

@@ -1,6 +1,1 @@
-pub mod Text
-pub mod Put
-pub mod Pieces
 pub mod Spoken
-pub mod Lines
-pub mod Example
