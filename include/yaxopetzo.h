@@ -1,7 +1,7 @@
 /*
  * Yaxopetzo: Reed-Solomon words, interleavers, position frames and the cross line, for C99 and C++.
  *
- * Link with libradio.a, which `rt staticlib radio` writes for x86-64. Every call is proved: it answers one of the numbers
+ * Link with libradio.a, which `tools/archive` writes for x86-64. Every call is proved: it answers one of the numbers
  * below for every input, it reads and writes nothing but the buffers that are lent to it, it keeps nothing between two
  * calls, it takes no memory of its own but the stack, and it ends. Two threads may call at once with buffers of their own.
  *

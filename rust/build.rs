@@ -1,5 +1,5 @@
-//! Links libradio.a, the proved library. `YAXOPETZO_LIB` names its folder; without it, `tools/native-archive radio` has put
-//! it into the repository's target/native.
+//! Links libradio.a, the proved library. `YAXOPETZO_LIB` names its folder; without it, `tools/native-archive` has put it into
+//! the repository's target/native.
 
 use std::env;
 use std::path::PathBuf;

@@ -1,6 +1,6 @@
 #!/usr/bin/env bash
 # The static library from C: tests/c/calls.c and README.md's own C program are compiled against include/yaxopetzo.h, linked with the archive
-# of `rt staticlib radio`, and run; the header alone is also compiled as C++. It catches a header that does not fit the archive (a struct's
+# of `tools/archive`, and run; the header alone is also compiled as C++. It catches a header that does not fit the archive (a struct's
 # layout, an argument's place, a missing call), an answer that is not the paper's, and a README that does not work as it stands.
 set -u
 cd "$(dirname "$0")/.." || exit 2
@@ -11,12 +11,12 @@ archive=target/staticlib/libradio.a
 flags=(-std=c99 -pedantic -Wall -Wextra -Werror -O1 -Iinclude)
 
 command -v cc >/dev/null || apt-get install -y gcc libc6-dev >/dev/null 2>&1 || { echo "no C compiler, and Debian's cannot be installed"; exit 1; }
-tools/archive radio >"$work/log" 2>&1 || { tail -n 3 "$work/log"; echo "radio is not proved"; exit 1; }
+tools/archive >"$work/log" 2>&1 || { tail -n 3 "$work/log"; echo "the calls for C are not proved, or their archive is not built"; exit 1; }
 
 # Every call of the header is in the archive, and the archive has no other.
 kit=$(dirname "$(dirname "$(rt doc)")")/on/$(uname -m)/toolchain
 sed -n 's/.*\b\(yaxo_[a-z_]*\)(.*/\1/p' include/yaxopetzo.h | sort -u >"$work/told"
-sed -n 's/^pub extern "C" fn \(yaxo_[a-z_]*\)(.*/\1/p' crates/radio/src/*.rt | sort -u >"$work/there"
+sed -n 's/^pub extern "C" fn \(yaxo_[a-z_]*\)(.*/\1/p' crates/radio_*/src/*.rt | sort -u >"$work/there"
 diff "$work/told" "$work/there" || { echo "the header's calls are not the library's"; status=1; }
 
 # The archive is for x86-64. On another machine the kit's clang compiles for x86-64 with this machine's headers, the kit's linker links with

@@ -10,7 +10,7 @@ if grep -rnE '^ *axiom ' crates --include='*.antt'; then
   status=1
 fi
 # These are the crates whose calls a user makes. All others are inner crates, whose calls may ask something; what `link` hands on of `frame`
-# may not. `face` and `radio`, whose calls C makes, stand below.
+# may not. The crates `radio_*`, whose calls C makes, stand below.
 for library in field word record sender receiver interleave cross_sender cross_receiver frame_out frame_in link reader; do
   for call in $(sed -n 's/^pub use [a-z_:]*::\([a-z_0-9]*\);$/\1/p; s/^pub fn \([a-z_0-9]*\).*/\1/p' "crates/$library/src/lib.rt"); do
     if cat "crates/$library"/src/*.rt crates/frame/src/{setting,trailer}.rt | sed -n "/^pub fn $call[<(]/,/^{/p" | grep -q requires; then
@@ -19,15 +19,18 @@ for library in field word record sender receiver interleave cross_sender cross_r
     fi
   done
 done
-# C cannot be held to a `requires`, and no call for C is without a promise.
-if grep -n requires crates/face/src/*.rt crates/radio/src/*.rt; then
+# C cannot be held to a `requires`, and no call for C, nor what it shows an answer by, is without a promise.
+if grep -n requires crates/radio_*/src/*.rt; then
   echo "a call for C has a requires"
   status=1
 fi
-calls=$(grep -c '^pub extern "C" fn ' <(cat crates/radio/src/*.rt))
-promises=$(grep -c '^    ensures { ' <(cat crates/radio/src/*.rt))
-if [ "$calls" -eq 0 ] || [ "$calls" -ne "$promises" ]; then
-  echo "radio has $calls calls for C and $promises promises"
-  status=1
-fi
+for folder in crates/radio_*; do
+  calls=$(cat "$folder"/src/*.rt | grep -c '^pub extern "C" fn ')
+  functions=$(cat "$folder"/src/*.rt | grep -cE '^(pub )?(extern "C" )?fn ')
+  promises=$(cat "$folder"/src/*.rt | grep -c '^    ensures { ')
+  if [ "$calls" -eq 0 ] || [ "$functions" -ne "$promises" ]; then
+    echo "$folder has $calls calls for C, and $promises promises of $functions functions"
+    status=1
+  fi
+done
 exit $status

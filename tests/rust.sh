@@ -24,7 +24,7 @@ for call in $(grep -o '\byaxo_[a-z_]*(' include/yaxopetzo.h | tr -d '(' | sort -
   grep -q "fn $call(" rust/src/ffi/header.rs || { echo "the Rust face lacks $call"; exit 1; }
 done
 
-quietly "no archive of the radio library" tools/native-archive radio
+quietly "no archive of the radio library" tools/native-archive
 export RUSTFLAGS="-D warnings"
 manifest=(--manifest-path rust/Cargo.toml --offline --locked)
 quietly "the Rust crate and the reference differ" cargo test -q --release "${manifest[@]}" --workspace
