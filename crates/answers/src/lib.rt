@@ -1,9 +1,9 @@
 // Document 01, section Numbers a call can answer: the paper's number of a word's answer, and its figures.
 ghost use mathlib.Core.Path.{_≡_};
-ghost use Rattle.word.specs.Answers.{encodedNumber, numberOf, figuresOf, noFigures};
-use word::Decoded;
-use word::Encoded;
-use word::Figures;
+ghost use Rattle.code.specs.Answers.{encodedNumber, numberOf, figuresOf, noFigures};
+use code::Decoded;
+use code::Encoded;
+use code::Figures;
 
 // The number of an encoder's answer.
 pub fn encoded_number(d: Encoded) -> u8

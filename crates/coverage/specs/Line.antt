@@ -8,11 +8,11 @@ use lib.ListN.{length, take, replicate}
 use lib.Dec.{T}
 use Rattle.algebra.specs.Tests.{at, below}
 use Rattle.algebra.specs.Lists.{tabulate}
-use Rattle.word.specs.Setting.{allowed, messageSize}
-use Rattle.word.specs.Answers.{numberOf, outcome, decoded, decodedPart, encodeOutcome, encodes}
-use Rattle.word.specs.declared.Setting.{Setting}
-use Rattle.word.specs.declared.Encoded.{Encoded}
-use Rattle.word.specs.declared.Decoded.{Decoded}
+use Rattle.code.specs.Setting.{allowed, messageSize}
+use Rattle.code.specs.Answers.{numberOf, outcome, decoded, decodedPart, encodeOutcome, encodes}
+use Rattle.code.specs.declared.Setting.{Setting}
+use Rattle.code.specs.declared.Encoded.{Encoded}
+use Rattle.code.specs.declared.Decoded.{Decoded}
 use Rattle.line.specs.Setting.{memorySize}
 use Rattle.line.specs.Promises.{FreshSender, SendStep, SendRun, FreshReceiver, ReceiveStep, ReceiveRun}
 use Rattle.line.specs.declared.setting.Line.{Line}

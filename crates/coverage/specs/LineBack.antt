@@ -11,9 +11,9 @@ use lib.Seq.{getD-append-add, ext-getD}
 use lib.Dec.{T}
 use Rattle.algebra.specs.Tests.{at, below-at}
 use Rattle.algebra.specs.Lists.{tabulate, tabulated, length-tabulate, getD-tabulate, tabulate-same}
-use Rattle.word.specs.Setting.{messageSize, limits, at-most}
-use Rattle.word.specs.Code.{encoded}
-use Rattle.word.specs.Codeword.{isCodeword, codeword}
+use Rattle.code.specs.Setting.{messageSize, limits, at-most}
+use Rattle.code.specs.Code.{encoded}
+use Rattle.code.specs.Codeword.{isCodeword, codeword}
 use Rattle.rings.specs.Marks.{Marks, marks-same}
 use Rattle.line.specs.Line.{sent, received, reachable}
 use Rattle.line.specs.Setting.{memorySize, lineAt, receiverRefusal, runRefusal, Fine, line-done, receiver-done, run-done}

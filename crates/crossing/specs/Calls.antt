@@ -11,7 +11,7 @@ use Rattle.algebra.specs.Tests.{at}
 use Rattle.rings.specs.Refusal.{ifZero, need-yes}
 use Rattle.rings.specs.Rings.{ring}
 use Rattle.rings.specs.Marks.{Marks, marks-set, marks-at, marks-same}
-use Rattle.word.specs.Answers.{refused}
+use Rattle.code.specs.Answers.{refused}
 use Rattle.crossing.specs.Cross.{outerWord, innerWord, unitsOf, turned, after, opened, passedOn, markOf, marksOf, closed, settled, received}
 use Rattle.crossing.specs.Promises.{freshNumber, FreshSender, FreshReceiver, Send, Receive}
 use Rattle.crossing.specs.Checks.{SendFine, send-done, fresh-done, ReceiveFine, receive-done}

@@ -7,10 +7,10 @@ use lib.Dec.{T}
 use lib.ListN.{length, replicate, length-replicate}
 use Rattle.algebra.specs.Tests.{below, passed}
 use Rattle.field.specs.Answers.{isField}
-use Rattle.word.specs.Setting.{allowed}
-use Rattle.word.specs.Code.{encoded}
-use Rattle.word.specs.Answers.{Outcome}
-use Rattle.word.specs.Answers.Laws.{encode-done}
+use Rattle.code.specs.Setting.{allowed}
+use Rattle.code.specs.Code.{encoded}
+use Rattle.code.specs.Answers.{Outcome}
+use Rattle.code.specs.Answers.Laws.{encode-done}
 use Rattle.crossing.specs.Cross.{outerCode, innerCode, outerWord, innerWord}
 
 pub outer-allowed : T (allowed outerCode)

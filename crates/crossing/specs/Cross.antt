@@ -11,8 +11,8 @@ use Rattle.algebra.specs.Lists.{tabulate}
 use Rattle.rings.specs.Refusal.{need, first, ifZero}
 use Rattle.rings.specs.Rings.{ringOut, ringKept}
 use Rattle.rings.specs.Marks.{marks?}
-use Rattle.word.specs.Answers.{Outcome, refused, encodes, decodedPart}
-use Rattle.word.specs.declared.Setting.{Setting}
+use Rattle.code.specs.Answers.{Outcome, refused, encodes, decodedPart}
+use Rattle.code.specs.declared.Setting.{Setting}
 use Rattle.crossing.specs.declared.codes.Found.{Found}
 use Rattle.crossing.specs.declared.position.Received.{Received}
 

@@ -8,7 +8,7 @@ use native.Mathlib.Omega.{arith}
 use Rattle.algebra.specs.Sets.{put-elim}
 use Rattle.rings.specs.Refusal.{need, ifZero}
 use lib.ListN.{length, replicate}
-use Rattle.word.specs.Answers.{Outcome, noFigures, refused, decodedPart}
+use Rattle.code.specs.Answers.{Outcome, noFigures, refused, decodedPart}
 use Rattle.crossing.specs.Cross.{outerCode, closed, settled, sendRefusal}
 use Rattle.crossing.specs.Promises.{ready, Send, refusedReceive, Receive}
 use Rattle.crossing.specs.declared.position.Ready.{Ready}

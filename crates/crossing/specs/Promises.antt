@@ -7,7 +7,7 @@ use Prim.Native.Nat.{ℕ}
 use native.Mathlib.Decide.{ℕ-discrete}
 use lib.ListN.{length, replicate}
 use Rattle.rings.specs.Refusal.{need, ifZero}
-use Rattle.word.specs.Answers.{Outcome, refused}
+use Rattle.code.specs.Answers.{Outcome, refused}
 use Rattle.crossing.specs.Cross.{outerWord, innerWord, unitsOf, due, stored, after, passedOn, marksOf, settled, received, sendRefusal, freshRefusal, receiveRefusal}
 use Rattle.crossing.specs.declared.position.Ready.{Ready}
 use Rattle.crossing.specs.declared.position.Received.{Received}

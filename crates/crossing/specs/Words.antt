@@ -8,7 +8,7 @@ use Prim.Native.Nat.{ℕ, _<_}
 use lib.ListN.{replicate}
 use Rattle.algebra.specs.Sets.{put-yes, put-no}
 use Rattle.rings.specs.Refusal.{new, kept}
-use Rattle.word.specs.Answers.{Outcome, refused, decodedPart}
+use Rattle.code.specs.Answers.{Outcome, refused, decodedPart}
 use Rattle.crossing.specs.Cross.{outerCode, unitsOf, due, passedOn, marksOf, closed, settled}
 
 module _ (marks bytes message : List ℕ) (o : Outcome) (e : o ≡ decodedPart outerCode marks bytes message) where

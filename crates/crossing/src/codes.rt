@@ -2,7 +2,7 @@
 ghost use mathlib.Core.Path.{_≡_};
 ghost use lib.ListN.{length, replicate};
 ghost use Rattle.rings.specs.Refusal.{ifZero};
-ghost use Rattle.word.specs.Answers.{numberOf};
+ghost use Rattle.code.specs.Answers.{numberOf};
 ghost use Rattle.crossing.specs.Cross.{outerCode, innerCode, outerWord, innerWord, passedOn, markOf, closed, found};
 use answers::figures_of;
 use answers::no_figures;

@@ -1,8 +1,8 @@
 // A frame's setting with its limits, and what the calls on a frame answer.
 ghost use mathlib.Core.Path.{_≡_};
 ghost use Rattle.frame.specs.Frame.{allowedFrame, wordSetting};
-use word::Figures;
-use word::Setting;
+use code::Figures;
+use code::Setting;
 
 // What a frame is set to: its depth, and its words' n, r and b. Its symbols are bytes.
 pub struct Framing {

@@ -15,12 +15,12 @@ use lib.Seq.{take-at, drop-at, drop-drop, drop-length, getD-set-same, getD-set-o
 use lib.Dec.{T, eqb, ltb}
 use Rattle.algebra.specs.Tests.{if_then_else_, at, below, below-at, below-all, passed, first-none, first-is}
 use Rattle.algebra.specs.Lists.{tabulate, tabulated}
-use Rattle.word.specs.Setting.{allowed, messageSize, allowed-yes}
-use Rattle.word.specs.Answers.{numberOf, figuresOf, noFigures, figures, outcome, decodedPart, sized, proper, refusal}
-use Rattle.word.specs.Answers.Laws.{part-found, part-lost, decode-part-once, refusal-none, sized-both}
-use Rattle.word.specs.declared.Figures.{Figures}
-use Rattle.word.specs.declared.Decoded.{Decoded}
-use Rattle.word.specs.declared.Decoded.the-variants as D
+use Rattle.code.specs.Setting.{allowed, messageSize, allowed-yes}
+use Rattle.code.specs.Answers.{numberOf, figuresOf, noFigures, figures, outcome, decodedPart, sized, proper, refusal}
+use Rattle.code.specs.Answers.Laws.{part-found, part-lost, decode-part-once, refusal-none, sized-both}
+use Rattle.code.specs.declared.Figures.{Figures}
+use Rattle.code.specs.declared.Decoded.{Decoded}
+use Rattle.code.specs.declared.Decoded.the-variants as D
 use Rattle.frame.specs.Lists.{joined, one-more, within, joined-more, length-joined}
 use Rattle.frame.specs.Slots.{wordIn, slotByte, Copied, place-rule, length-wordIn}
 use Rattle.frame.specs.Frame.{wordSetting, areaSize, slotCount, isNone, receivedWord, receivedMarks, correctedWord, messageOf, figuresAt, beyond, areaReceived, figuresReceived}

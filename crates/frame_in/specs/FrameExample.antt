@@ -12,14 +12,14 @@ use Rattle.algebra.specs.Tests.{total, each, below, firstBelow}
 use Rattle.algebra.specs.Lists.{tabulate}
 use Rattle.field.specs.Field.{times, reduce, product, power}
 use Rattle.field.specs.Answers.{isField}
-use Rattle.word.specs.Setting.{allowed}
-use Rattle.word.specs.Word.{valueFrom, errorOf, errors, marked, bits}
-use Rattle.word.specs.Codeword.{isCodeword, qualifies}
-use Rattle.word.specs.Code.{encoded}
-use Rattle.word.specs.Code.Laws.{corrected-only, encoded-only}
-use Rattle.word.specs.Answers.{noFigures}
-use Rattle.word.specs.declared.Setting.{Setting}
-use Rattle.word.specs.declared.Figures.{Figures}
+use Rattle.code.specs.Setting.{allowed}
+use Rattle.code.specs.Word.{valueFrom, errorOf, errors, marked, bits}
+use Rattle.code.specs.Codeword.{isCodeword, qualifies}
+use Rattle.code.specs.Code.{encoded}
+use Rattle.code.specs.Code.Laws.{corrected-only, encoded-only}
+use Rattle.code.specs.Answers.{noFigures}
+use Rattle.code.specs.declared.Setting.{Setting}
+use Rattle.code.specs.declared.Figures.{Figures}
 use Rattle.interleave.specs.Block.{transposed}
 use Rattle.frame.specs.Lists.{joined}
 use Rattle.frame.specs.Slots.{wordIn}

@@ -9,7 +9,7 @@ use borrow.Author.Tests.{eq-eqb, ne-eqb, lt-ltb, le-ltb}
 use lib.ListN.{length, replicate}
 use lib.Dec.{eqb}
 use Rattle.algebra.specs.Tests.{if_then_else_, below}
-use Rattle.word.specs.declared.Figures.{Figures}
+use Rattle.code.specs.declared.Figures.{Figures}
 use Rattle.frame.specs.Frame.{areaSize, slotCount, allowedFrame, beyond, areaReceived, figuresReceived, twoAt, trailerGood, payloadOf, ReceiveOutcome, receiveOutcome, answered, refusedWith, settled, decodedFrame, received, numberOf, wordNumber}
 use Rattle.frame.specs.declared.setting.Framing.{Framing}
 use Rattle.frame.specs.declared.setting.Received.{Received}

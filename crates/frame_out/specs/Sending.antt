@@ -10,12 +10,12 @@ use lib.ListN.{length}
 use lib.Dec.{T, eqb}
 use Rattle.algebra.specs.Tests.{if_then_else_, below, passed}
 use Rattle.algebra.specs.Lists.{tabulate, length-tabulate}
-use Rattle.word.specs.Setting.{allowed, messageSize, allowed-yes}
-use Rattle.word.specs.Code.{encoded}
-use Rattle.word.specs.Answers.{Outcome, encodeOutcome, encodes}
-use Rattle.word.specs.Answers.Laws.{encode-done}
-use Rattle.word.specs.declared.Setting.{Setting}
-use Rattle.word.specs.declared.Encoded.{Encoded}
+use Rattle.code.specs.Setting.{allowed, messageSize, allowed-yes}
+use Rattle.code.specs.Code.{encoded}
+use Rattle.code.specs.Answers.{Outcome, encodeOutcome, encodes}
+use Rattle.code.specs.Answers.Laws.{encode-done}
+use Rattle.code.specs.declared.Setting.{Setting}
+use Rattle.code.specs.declared.Encoded.{Encoded}
 use Rattle.frame.specs.Lists.{part, within, part-entries}
 use Rattle.frame.specs.Slots.{Copied, Placed, Spread, spread-none, spread-more, spread-all}
 use Rattle.frame.specs.Frame.{wordSetting, areaSize, slotCount, allowedFrame, areaByte, areaSent, wordSent, slotsSent, SendOutcome, sentNumber, sendOutcome, sent}

@@ -3,8 +3,8 @@
 use mathlib.Core.List.{List, _++_}
 use Prim.Native.Nat.{ℕ}
 use lib.ListN.{length, getD}
-use Rattle.word.specs.Answers.{noFigures}
-use Rattle.word.specs.declared.Figures.{Figures}
+use Rattle.code.specs.Answers.{noFigures}
+use Rattle.code.specs.declared.Figures.{Figures}
 use Rattle.frame.specs.Lists.{joined}
 use Rattle.text.specs.Text.{bytes, decimal, hexes}
 pub mod Laws

@@ -5,11 +5,11 @@ ghost use Prim.Native.Nat.{_+_, _*_, _≤_};
 ghost use lib.ListN.{length};
 ghost use Rattle.text.specs.Put.{Put};
 ghost use Rattle.frame_text.specs.Lines.{named, refusal, firstLine, wordLine, wordLines, frameText};
+use code::Figures;
 use text::put;
 use text::put_byte;
 use text::put_decimal;
 use text::put_hexes;
-use word::Figures;
 
 // Writes what a number is, and the number.
 fn put_named(name: &[u8], n: usize, text: &mut [u8], at: usize) -> usize

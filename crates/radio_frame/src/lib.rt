@@ -5,6 +5,7 @@ ghost use mathlib.Core.Path.{_≡_};
 ghost use Rattle.frame.specs.Frame.{allowedFrame, sentNumber, sendOutcome, sent, answered, received};
 ghost use Rattle.answers.specs.Shown.{Shows};
 ghost use Rattle.radio_frame.specs.Frames.{framingOf, startOf, frameSeen};
+use code::Figures;
 use frame::numbers::number_of;
 use frame::numbers::sent_number;
 use frame::numbers::word_number;
@@ -14,7 +15,6 @@ use link::is_allowed;
 use link::payload;
 use link::receive;
 use link::send;
-use word::Figures;
 
 // A frame as C sets it.
 #[repr(C)]

@@ -4,11 +4,11 @@ use mathlib.Core.Path.{_≡_, refl}
 use mathlib.Core.Bool.{Bool}
 use mathlib.Core.List.{List}
 use Prim.Native.Nat.{ℕ}
-use Rattle.word.specs.Setting.{allowed}
-use Rattle.word.specs.Answers.{numberOf, figuresOf, encodedNumber, outcome, encodeOutcome, encodes, decoded, decodedPart}
-use Rattle.word.specs.Answers.Laws.{encode-once, decode-once, decode-part-once}
-use Rattle.word.specs.declared.Setting.{Setting}
-use Rattle.word.specs.declared.Decoded.{Decoded}
+use Rattle.code.specs.Setting.{allowed}
+use Rattle.code.specs.Answers.{numberOf, figuresOf, encodedNumber, outcome, encodeOutcome, encodes, decoded, decodedPart}
+use Rattle.code.specs.Answers.Laws.{encode-once, decode-once, decode-part-once}
+use Rattle.code.specs.declared.Setting.{Setting}
+use Rattle.code.specs.declared.Decoded.{Decoded}
 use Rattle.answers.specs.Shown.{Shows, shown-once}
 use Rattle.radio_word.specs.declared.CodeSetting.{CodeSetting}
 use Rattle.radio_word.specs.declared.WordAnswer.{WordAnswer}

@@ -10,12 +10,12 @@ use Rattle.algebra.specs.Tests.{total, each, below}
 use Rattle.algebra.specs.Lists.{tabulate}
 use Rattle.field.specs.Field.{times, reduce, product, power}
 use Rattle.field.specs.Answers.{isField, isElement, productOf}
-use Rattle.word.specs.Setting.{allowed}
-use Rattle.word.specs.Word.{valueFrom, errorOf, errors, marked, bits}
-use Rattle.word.specs.Codeword.{isCodeword, qualifies}
-use Rattle.word.specs.Answers.{refusal, sized, proper}
-use Rattle.word.specs.declared.Setting.{Setting}
-use Rattle.word.specs.declared.Decoded.the-variants.{BeyondReach}
+use Rattle.code.specs.Setting.{allowed}
+use Rattle.code.specs.Word.{valueFrom, errorOf, errors, marked, bits}
+use Rattle.code.specs.Codeword.{isCodeword, qualifies}
+use Rattle.code.specs.Answers.{refusal, sized, proper}
+use Rattle.code.specs.declared.Setting.{Setting}
+use Rattle.code.specs.declared.Decoded.the-variants.{BeyondReach}
 use Rattle.rings.specs.Rings.{ring, tri}
 use Rattle.rings.specs.Delay.{answer, memory, position, lineOut, lineKept}
 use Rattle.rings.specs.Marks.{marks-same}

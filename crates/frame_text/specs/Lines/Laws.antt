@@ -4,8 +4,8 @@ use mathlib.Core.Path.{_≡_}
 use mathlib.Core.List.{List}
 use Prim.Native.Nat.{ℕ, _+_, _≤_}
 use lib.ListN.{length, getD}
-use Rattle.word.specs.Answers.{noFigures}
-use Rattle.word.specs.declared.Figures.{Figures}
+use Rattle.code.specs.Answers.{noFigures}
+use Rattle.code.specs.declared.Figures.{Figures}
 use Rattle.frame.specs.Lists.{joined, joined-more}
 use Rattle.text.specs.Text.{bytes, decimal, hexes}
 use Rattle.text.specs.Put.{Put, put-none, put-then}

@@ -7,7 +7,7 @@ use native.Mathlib.Omega.{arith}
 use lib.ListN.{length, take, drop, replicate, drop-of-length-le}
 use lib.Seq.{length-take-le}
 use borrow.Author.Needs.{needs}
-use Rattle.word.specs.Answers.{Outcome, figuresOf}
+use Rattle.code.specs.Answers.{Outcome, figuresOf}
 use Rattle.crossing.specs.Words.{closed-refused, closed-corrected}
 use Rattle.crossing.proofs.codes.close_outer.Statement.{statement}
 use Rattle.crossing.proofs.codes.close_outer.Tie as tie

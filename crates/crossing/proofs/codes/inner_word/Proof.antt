@@ -2,7 +2,7 @@
 -- Assumes nothing.
 use mathlib.Core.Path.{ap}
 use borrow.Author.Needs.{needs}
-use Rattle.word.specs.Answers.{Outcome}
+use Rattle.code.specs.Answers.{Outcome}
 use Rattle.crossing.specs.Cross.{innerWord}
 use Rattle.crossing.proofs.codes.inner_word.Statement.{statement}
 use Rattle.crossing.proofs.codes.inner_word.Tie as tie

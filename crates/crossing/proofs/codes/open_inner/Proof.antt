@@ -6,7 +6,7 @@ use borrow.Author.Needs.{needs}
 use lib.ListN.{length, take, length-take}
 use lib.Seq.{take-all, length-take-le}
 use Rattle.rings.specs.Refusal.{ifZero}
-use Rattle.word.specs.Answers.{Outcome, outcome}
+use Rattle.code.specs.Answers.{Outcome, outcome}
 use Rattle.crossing.specs.Cross.{opened}
 use Rattle.crossing.proofs.codes.open_inner.Statement.{statement}
 use Rattle.crossing.proofs.codes.open_inner.Tie as tie

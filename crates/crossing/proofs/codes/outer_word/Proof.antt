@@ -5,7 +5,7 @@ use mathlib.Core.List.{List}
 use Prim.Native.Nat.{ℕ}
 use lib.ListN.{length, length-replicate}
 use borrow.Author.Needs.{needs}
-use Rattle.word.specs.Answers.{Outcome}
+use Rattle.code.specs.Answers.{Outcome}
 use Rattle.crossing.specs.Cross.{outerWord}
 use Rattle.crossing.proofs.codes.outer_word.Statement.{statement}
 use Rattle.crossing.proofs.codes.outer_word.Tie as tie
