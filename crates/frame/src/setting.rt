@@ -54,7 +54,7 @@ pub fn words_of(f: Framing) -> Setting
 pub fn is_allowed(f: Framing) -> bool
     ensures { λ r. ⌜ r ≡ allowedFrame f ⌝ }
 {
-    if !word::is_allowed(words_of(f)) {
+    if !code::limits::is_allowed(words_of(f)) {
         return false;
     }
     if f.depth < 1 {
