@@ -15,9 +15,9 @@ use frame::setting::Verdict;
 use frame::setting::is_allowed;
 use frame::setting::words_of;
 use frame::slots::take_word;
-use frame::trailer::is_good;
-use frame::trailer::two_at;
 use rings::marks_fit;
+use trailer::is_good;
+use trailer::two_at;
 use word::Decoded;
 use word::Figures;
 

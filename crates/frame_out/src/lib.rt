@@ -10,7 +10,7 @@ use frame::setting::is_allowed;
 use frame::setting::words_of;
 use frame::slots::put_word;
 use frame::slots::work_space;
-use frame::trailer::fill_message;
+use trailer::fill_message;
 
 // Encodes each word's part of the area, and puts it into its slots. The two buffers are work space for a message and its word.
 fn send_words(

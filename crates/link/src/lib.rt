@@ -10,10 +10,10 @@ pub use frame::setting::Received;
 pub use frame::setting::Sent;
 pub use frame::setting::Verdict;
 pub use frame::setting::is_allowed;
-pub use frame::trailer::payload;
 pub use frame_in::receive;
 pub use frame_out::send;
 pub use part::receive_part;
+pub use trailer::payload;
 
 // The receiver's record.
 pub use record::Kind;

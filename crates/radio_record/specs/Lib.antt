@@ -1,1 +1,1 @@
-pub mod Receiver
+pub mod Records

@@ -1,21 +1,12 @@
-// The receiver's record for C, and the receiver's whole call. Each call hands its input to the call below it and shows the answer; what is
-// shown of a frame stands in `radio_frame`. The header for C is include/yaxopetzo.h. No call asks anything of its caller but that a
-// pointer and its length are those of a buffer.
+// The receiver's record for C. Each call hands its input to the call of `record` and shows the answer. The header for C is
+// include/yaxopetzo.h. No call asks anything of its caller but that a pointer and its length are those of a buffer.
 ghost use mathlib.Core.Path.{_≡_};
 ghost use Rattle.record.specs.Record.{standing, noted};
-ghost use Rattle.link.specs.Receiver.{hearOutcome, heard};
-ghost use Rattle.answers.specs.Shown.{Shows};
-ghost use Rattle.radio_frame.specs.Frames.{framingOf};
-ghost use Rattle.radio_record.specs.Receiver.{flagAfter, recordOf, recordSeen, freshLent, kindNumber, judgedBy, heardSeen, bothSeen};
-use link::Kind;
-use link::Record;
-use link::hear;
-use link::note;
-use link::standing_of;
-use radio_frame::FrameAnswer;
-use radio_frame::FrameSetting;
-use radio_frame::frame_answer;
-use radio_frame::framing_of;
+ghost use Rattle.radio_record.specs.Records.{flagAfter, recordOf, recordSeen, freshLent, kindNumber, judgedBy};
+use record::Kind;
+use record::Record;
+use record::note;
+use record::standing_of;
 
 // The record as C lends it. C can put any byte where a `bool` is to be, so `accepted` is a byte: 0, or anything else for yes.
 #[repr(C)]
@@ -28,15 +19,8 @@ pub struct LentRecord {
     pub refused: u32,
 }
 
-// The record after a frame, and what the frame was answered.
-#[repr(C)]
-pub struct HeardAnswer {
-    pub next: LentRecord,
-    pub answer: FrameAnswer,
-}
-
 // The record below.
-fn record_of(lent: LentRecord) -> Record
+pub fn record_of(lent: LentRecord) -> Record
     ensures { λ r. ⌜ r ≡ recordOf lent ⌝ }
 {
     Record {
@@ -64,7 +48,7 @@ fn flag_after(flag: u8, accepted: bool) -> u8
 }
 
 // The next record as C sees it.
-fn record_seen(before: LentRecord, next: Record) -> LentRecord
+pub fn record_seen(before: LentRecord, next: Record) -> LentRecord
     ensures { λ r. ⌜ r ≡ recordSeen before next ⌝ }
 {
     LentRecord {
@@ -135,37 +119,4 @@ pub extern "C" fn yaxo_record_note_in(lent: &mut LentRecord, answer: u8, sequenc
     ensures { λ _. ⌜ now (lent .exit) ≡ recordSeen (now (lent .entry)) (noted (recordOf (now (lent .entry))) answer sequence) ⌝ }
 {
     *lent = yaxo_record_note(*lent, answer, sequence);
-}
-
-// The receiver's whole call: receives a frame as `yaxo_frame_receive` does, and notes what it was answered.
-#[no_mangle]
-pub extern "C" fn yaxo_hear(
-    before: LentRecord,
-    framing: FrameSetting,
-    slots: &[u8],
-    marks: &[u8],
-    area: &mut [u8],
-) -> HeardAnswer
-    ensures { λ r. ⌜ Shows (heardSeen before (now (area .exit))) (λ t. hearOutcome (t .answer) (t .next) (now (area .exit)) ≡ heard (recordOf before) (framingOf framing) (now (marks .entry)) (now (slots .entry)) (now (area .entry))) r ⌝ }
-{
-    let t = hear(record_of(before), framing_of(framing), slots, marks, area);
-    let next = record_seen(before, t.next);
-    let answer = frame_answer(t.answer, area);
-    HeardAnswer { next, answer }
-}
-
-// The same over a lent record, which is updated where it stands.
-#[no_mangle]
-pub extern "C" fn yaxo_hear_in(
-    lent: &mut LentRecord,
-    framing: FrameSetting,
-    slots: &[u8],
-    marks: &[u8],
-    area: &mut [u8],
-) -> FrameAnswer
-    ensures { λ r. ⌜ Shows (heardSeen (now (lent .entry)) (now (area .exit))) (λ t. hearOutcome (t .answer) (t .next) (now (area .exit)) ≡ heard (recordOf (now (lent .entry))) (framingOf framing) (now (marks .entry)) (now (slots .entry)) (now (area .entry))) (bothSeen (now (lent .exit)) r) ⌝ }
-{
-    let t = yaxo_hear(*lent, framing, slots, marks, area);
-    *lent = t.next;
-    t.answer
 }

@@ -1,6 +1,6 @@
 -- `flag_after` meets its contract, case by case.
 -- Assumes nothing.
-use Rattle.radio_record.specs.Receiver.{flag-told, flag-first, flag-none}
+use Rattle.radio_record.specs.Records.{flag-told, flag-first, flag-none}
 use Rattle.radio_record.proofs.flag_after.Statement.{statement}
 use Rattle.radio_record.proofs.flag_after.Tie as tie
 

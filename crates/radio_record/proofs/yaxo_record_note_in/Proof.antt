@@ -40,7 +40,7 @@ use denote.Triple.Clauses.{ensured, lasts}
 use denote.Exit.{yes}
 use Rattle.radio_record.specs.declared.LentRecord.{LentRecord}
 use Rattle.record.specs.Record.{noted}
-use Rattle.radio_record.specs.Receiver.{recordOf, recordSeen}
+use Rattle.radio_record.specs.Records.{recordOf, recordSeen}
 use Rattle.radio_record.proofs.LentRecord as T
 use Rattle.radio_record.proofs.LentRecord.Laws as T′
 use Rattle.radio_record.proofs.yaxo_record_note as g

@@ -1,10 +1,10 @@
--- `trailer::two_at` meets its contract: two bytes make a number of 16 bits.
+-- `two_at` meets its contract: two bytes make a number of 16 bits.
 -- Assumes nothing.
 use Prim.Native.Nat.{_+_}
 use native.Mathlib.Omega.{arith}
 use borrow.Author.Needs.{needs}
-use Rattle.frame.proofs.trailer.two_at.Statement.{statement}
-use Rattle.frame.proofs.trailer.two_at.Tie as tie
+use Rattle.trailer.proofs.two_at.Statement.{statement}
+use Rattle.trailer.proofs.two_at.Tie as tie
 
 shared-slice-read-result : tie.Need-shared-slice-read-result
 shared-slice-read-result c = search needs

@@ -1,13 +1,13 @@
--- `trailer::zeros_before` meets its contract. The loop's invariant: the first i bytes are zeros.
+-- `zeros_before` meets its contract. The loop's invariant: the first i bytes are zeros.
 -- Assumes nothing.
 use mathlib.Core.Path.{_≡_}
 use Prim.Native.Nat.{ℕ, _-_, _≤_, _<_}
 use native.Mathlib.Omega.{arith}
 use borrow.Author.Count.{below-none, below-more}
 use Rattle.algebra.specs.Tests.{at}
 use Rattle.frame.specs.Frame.Trailer.{zeros-stop, zeros-all}
-use Rattle.frame.proofs.trailer.zeros_before.Statement.{statement}
-use Rattle.frame.proofs.trailer.zeros_before.Tie as tie
+use Rattle.trailer.proofs.zeros_before.Statement.{statement}
+use Rattle.trailer.proofs.zeros_before.Tie as tie
 
 abbrev Inv-loop : tie.InvT-loop
 Inv-loop area end i₀ i = (i ≤ end) × ((k : ℕ) → k < i → at area k ≡ 0)

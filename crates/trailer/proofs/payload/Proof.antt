@@ -1,12 +1,12 @@
--- `trailer::payload` meets its contract: each return is one case of the definition.
+-- `payload` meets its contract: each return is one case of the definition.
 -- Assumes nothing.
 use mathlib.Core.Path.{sym, _∙_}
 use native.Mathlib.Omega.{arith}
 use borrow.Author.Needs.{needs}
 use borrow.Author.Tests.{not-true, not-false}
 use Rattle.frame.specs.Frame.Trailer.{payload-refused, payload-short, payload-there}
-use Rattle.frame.proofs.trailer.payload.Statement.{statement}
-use Rattle.frame.proofs.trailer.payload.Tie as tie
+use Rattle.trailer.proofs.payload.Statement.{statement}
+use Rattle.trailer.proofs.payload.Tie as tie
 
 is-done-requires : tie.Need-is-done-requires
 is-done-requires c κs = search needs

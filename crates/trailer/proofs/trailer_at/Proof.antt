@@ -1,10 +1,10 @@
--- `trailer::trailer_at` meets its contract: each return is one byte of the trailer.
+-- `trailer_at` meets its contract: each return is one byte of the trailer.
 -- Assumes nothing.
 use mathlib.Core.Path.{_≡_}
 use native.Mathlib.Omega.{arith}
 use borrow.Author.Needs.{needs}
-use Rattle.frame.proofs.trailer.trailer_at.Statement.{statement}
-use Rattle.frame.proofs.trailer.trailer_at.Tie as tie
+use Rattle.trailer.proofs.trailer_at.Statement.{statement}
+use Rattle.trailer.proofs.trailer_at.Tie as tie
 
 cast-result : tie.Need-cast-result
 cast-result c = search needs

@@ -1,13 +1,13 @@
--- `trailer::fill_message` meets its contract. The loop's invariant: the first i bytes of the message are the area's from `start` on.
+-- `fill_message` meets its contract. The loop's invariant: the first i bytes of the message are the area's from `start` on.
 -- Assumes nothing.
 use mathlib.Core.Path.{refl}
 use Prim.Native.Nat.{_-_}
 use native.Mathlib.Omega.{arith}
 use lib.ListN.{length}
 use Rattle.frame.specs.Frame.{areaByte, areaSent}
 use Rattle.frame.specs.Slots.{Copying, copying-none, copying-more, copying-all}
-use Rattle.frame.proofs.trailer.fill_message.Statement.{statement}
-use Rattle.frame.proofs.trailer.fill_message.Tie as tie
+use Rattle.trailer.proofs.fill_message.Statement.{statement}
+use Rattle.trailer.proofs.fill_message.Tie as tie
 
 abbrev Inv-loop : tie.InvT-loop
 Inv-loop payload sequence size start message₀ i₀ message i = Copying (length message₀) (areaByte (areaSent size payload sequence) start) i message

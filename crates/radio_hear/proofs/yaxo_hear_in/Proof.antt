@@ -44,26 +44,27 @@ use denote.Exit.{yes}
 use Rattle.link.specs.Receiver.{hearOutcome, heard as heardOf}
 use Rattle.answers.specs.Shown.{Shows}
 use Rattle.radio_frame.specs.Frames.{framingOf}
-use Rattle.radio_record.specs.Receiver.{recordOf, heardSeen}
+use Rattle.radio_record.specs.Records.{recordOf}
 use Rattle.radio_record.specs.declared.LentRecord.{LentRecord}
-use Rattle.radio_record.specs.declared.HeardAnswer.{HeardAnswer}
+use Rattle.radio_hear.specs.Receiver.{heardSeen}
+use Rattle.radio_hear.specs.declared.HeardAnswer.{HeardAnswer}
 use Rattle.radio_frame.specs.declared.FrameSetting.{FrameSetting}
 use Rattle.radio_frame.proofs.FrameSetting as framing-type
 use Rattle.radio_frame.proofs.FrameSetting.Laws as framing-laws
 use Rattle.radio_record.proofs.LentRecord as T
 use Rattle.radio_record.proofs.LentRecord.Laws as T′
-use Rattle.radio_record.proofs.HeardAnswer as K
-use Rattle.radio_record.proofs.HeardAnswer.Laws as K′
+use Rattle.radio_hear.proofs.HeardAnswer as K
+use Rattle.radio_hear.proofs.HeardAnswer.Laws as K′
 use Rattle.radio_frame.proofs.FrameAnswer as N
 use Rattle.radio_frame.proofs.FrameAnswer.Laws as N′
-use Rattle.radio_record.proofs.yaxo_hear as g
-use Rattle.radio_record.proofs.yaxo_hear.Symbol as g-def
-use Rattle.radio_record.proofs.yaxo_hear.Symbol.{name as #radio-record·yaxo-hear}
-use Rattle.radio_record.proofs.yaxo_hear.Met as g-thm
-use Rattle.radio_record.proofs.yaxo_hear_in.Key.{name as #radio-record·yaxo-hear-in}
-use Rattle.radio_record.proofs.yaxo_hear_in as f
-use Rattle.radio_record.proofs.yaxo_hear_in.Statement as stated
-use Rattle.radio_record.proofs.yaxo_hear_in.Code as code
+use Rattle.radio_hear.proofs.yaxo_hear as g
+use Rattle.radio_hear.proofs.yaxo_hear.Symbol as g-def
+use Rattle.radio_hear.proofs.yaxo_hear.Symbol.{name as #radio-hear·yaxo-hear}
+use Rattle.radio_hear.proofs.yaxo_hear.Met as g-thm
+use Rattle.radio_hear.proofs.yaxo_hear_in.Key.{name as #radio-hear·yaxo-hear-in}
+use Rattle.radio_hear.proofs.yaxo_hear_in as f
+use Rattle.radio_hear.proofs.yaxo_hear_in.Statement as stated
+use Rattle.radio_hear.proofs.yaxo_hear_in.Code as code
 
 abbrev Ref : Type 0
 Ref = RefT (List ℕ)
@@ -128,7 +129,7 @@ module _ {M : Type 1} (𝓤 : URA M) (H : Heap 𝓤) (A : Atoms 𝓤) (W : Given
       suffices ! _ (ends-at 𝓤 H A f.ended stayed (f.clauses 𝓤 H A at-mem run) W (((κ, (κ₁, (κ₂, (κ₃, tt)))), (q, (q₁, (q₂, (q₃, tt)))), tt, x, at), tt) _ (t .answer) ((t .next), (tt, (tt, (tt, (area′, tt))))) (tt, (tt, (tt, (tt, (l-area, tt)))))) $
       says ! e $ move ! (2 ∷ 3 ∷ []) $ join ! $ frame ! $ feqI ! (List Val) (vptr b o ∷ []) (vptr b o ∷ []) refl $ fjoin3 ! $ nothing ! $ move ! (2 ∷ 0 ∷ []) $ fjoin ! $ move ! (3 ∷ 0 ∷ []) $ fjoin ! $ move ! (2 ∷ 0 ∷ []) $ fjoin ! $ owned ! framing-type.the-row (Is framing-type.the-row) (LL.makes framing-type.the-type framing-laws.the-plain 𝓤 H A) framing _ framing-is $ fjoin ! $ move ! (1 ∷ 0 ∷ []) $ fjoin ! $ owned ! N.the-row (Is N.the-row) (LL.makes N.the-type N′.the-plain 𝓤 H A) (t .answer) _ is $ move ! (1 ∷ 0 ∷ []) $ done !
 
-  module _ (C : Calls 𝓤 H) (Λ : Loops 𝓤 H) (fm : FmC 𝓤 H (W .laws) C) (known : Triple 𝓤 (C #radio-record·yaxo-hear) (G 𝓤 H A at-mem run)) where
+  module _ (C : Calls 𝓤 H) (Λ : Loops 𝓤 H) (fm : FmC 𝓤 H (W .laws) C) (known : Triple 𝓤 (C #radio-hear·yaxo-hear) (G 𝓤 H A at-mem run)) where
     walk : Room u8 (length (slots .now)) → Room u8 (length (marks .now)) → Room u8 (length (area .now)) → ent 𝓤 (onEntry 𝓤 H A f.signature (κ, (κ₁, (κ₂, (κ₃, tt)))) (q, (q₁, (q₂, (q₃, tt)))) x at) (WpFn 𝓤 H C Λ code.function (vptr b o ∷ only (LL.vals framing-type.the-type framing-laws.the-laws framing) ∷ val slots ∷ val marks ∷ val area ∷ []) Post)
     walk room-slots room-marks room-area =
         qed W ((‵ (flft κ q) ⊛ ‵ (flft κ₁ q₁) ⊛ ‵ (flft κ₂ q₂) ⊛ ‵ (flft κ₃ q₃) ⊛ ‵ ftrue) ∷ ‵ (owns (MutRef (named 0) κ T.the-row ∷ framing-type.the-row ∷ ShrSlice (named 1) κ₁ u8 ∷ ShrSlice (named 2) κ₂ u8 ∷ MutSlice (named 3) κ₃ u8 ∷ []) x at) ∷ []) ∵
@@ -164,7 +165,7 @@ module _ {M : Type 1} (𝓤 : URA M) (H : Heap 𝓤) (A : Atoms 𝓤) (W : Given
         keep ! (2 ∷ 3 ∷ 4 ∷ 5 ∷ 7 ∷ 0 ∷ 1 ∷ []) $ by ! (exits t (ws .1 .1 .1 .1 .0) e l-area (parts .1 .0))))))))))))))))))))
 
 module _ {M : Type 1} (𝓤 : URA M) (H : Heap 𝓤) (A : Atoms 𝓤) (W : Given 𝓤 H A) (at-mem : Memory → SProp 𝓤) (run : Routine → Fun 𝓤) where
-  walks : (C : Calls 𝓤 H) (Λ : Loops 𝓤 H) → FmC 𝓤 H (W .laws) C → Triple 𝓤 (C #radio-record·yaxo-hear) (G 𝓤 H A at-mem run) → Walks 𝓤 H A f.ended stayed (WpFn 𝓤 H C Λ code.function) (f.clauses 𝓤 H A at-mem run)
+  walks : (C : Calls 𝓤 H) (Λ : Loops 𝓤 H) → FmC 𝓤 H (W .laws) C → Triple 𝓤 (C #radio-hear·yaxo-hear) (G 𝓤 H A at-mem run) → Walks 𝓤 H A f.ended stayed (WpFn 𝓤 H C Λ code.function) (f.clauses 𝓤 H A at-mem run)
   walks C Λ fm known = walked 𝓤 H A f.ended stayed (f.clauses 𝓤 H A at-mem run) (WpFn 𝓤 H C Λ code.function) (λ κs. (ptr-vals, (LL.vals framing-type.the-type framing-laws.the-laws, (slice-vals, (slice-vals, (slice-vals, tt))))))
       (λ κs. (mut-tells (named 0) (κs .0) T.the-row, (LL.tells framing-type.the-type framing-laws.the-laws, (shr-slice-tells (named 1) (κs .1 .0) u8, (shr-slice-tells (named 2) (κs .1 .1 .0) u8, (mut-slice-tells (named 3) (κs .1 .1 .1 .0) u8, tt))))))
       (λ κs qs bounds a _ are. via 𝓤 _ (fst∗ 𝓤 _ (emp 𝓤)) (walk 𝓤 H A W at-mem run (κs .0) (κs .1 .0) (κs .1 .1 .0) (κs .1 .1 .1 .0) (qs .0) (qs .1 .0) (qs .1 .1 .0) (qs .1 .1 .1 .0) (a .0 .ptr .0) (a .0 .ptr .1) (a .0 .name) (a .0 .now) (a .1 .0) (a .1 .1 .0) (a .1 .1 .1 .0) (a .1 .1 .1 .1 .0) (are .1 .0) C Λ fm known (are .1 .1 .0 .0 .1) (are .1 .1 .1 .0 .0 .1) (are .1 .1 .1 .1 .0 .0 .1)))
@@ -172,7 +173,7 @@ module _ {M : Type 1} (𝓤 : URA M) (H : Heap 𝓤) (A : Atoms 𝓤) (W : Given
   goes : AllGo 𝓤 H A W 4 (f.signature .params) (f.ended .kept) stayed
   goes = (goes-ref 𝓤 H A W 4 0 tt (plain (λ _. T.the-row)), (goes-none 𝓤 H A W 4 (λ _. framing-type.the-row) yes (λ κs x f. refl), (goes-none-slice 𝓤 H A W 4 (1 ∷ []) tt (plain (λ _. u8)) yes, (goes-none-slice 𝓤 H A W 4 (2 ∷ []) tt (plain (λ _. u8)) yes, (goes-gave-slice 𝓤 H A W 4 3 tt (plain (λ _. u8)), tt)))))
 
-meets : {M : Type 1} (𝓤 : URA M) (H : Heap 𝓤) (A : Atoms 𝓤) (W : Given 𝓤 H A) (at-mem : Memory → SProp 𝓤) (run : Routine → Fun 𝓤) (𝓣 : Tables 𝓤 H) → Triple 𝓤 (𝓣 .C #radio-record·yaxo-hear) (G 𝓤 H A at-mem run)
+meets : {M : Type 1} (𝓤 : URA M) (H : Heap 𝓤) (A : Atoms 𝓤) (W : Given 𝓤 H A) (at-mem : Memory → SProp 𝓤) (run : Routine → Fun 𝓤) (𝓣 : Tables 𝓤 H) → Triple 𝓤 (𝓣 .C #radio-hear·yaxo-hear) (G 𝓤 H A at-mem run)
     → Meets 𝓤 H A f.signature (WpFn 𝓤 H (𝓣 .C) (𝓣 .Λ) code.function) (f.spec 𝓤 H A at-mem run)
 meets 𝓤 H A W at-mem run 𝓣 known = walk-meets 𝓤 H A f.ended stayed W (goes 𝓤 H A W at-mem run) (f.clauses 𝓤 H A at-mem run) (WpFn 𝓤 H (𝓣 .C) (𝓣 .Λ) code.function) (WpFn-mono 𝓤 H (W .laws) 𝓣 code.function)
     (walks 𝓤 H A W at-mem run (𝓣 .C) (𝓣 .Λ) (fmOf 𝓤 H (W .laws) 𝓣) known)
@@ -181,6 +182,6 @@ pub yaxo-hear-in-spec : {M : Type 1} → stated.statement M
 unfolding code.routine tablesOf
 yaxo-hear-in-spec 𝓤 H 𝓜 𝓖 𝓡 =
     entered 𝓤 H (tripleOf 𝓤 H (𝓖 .A) f.signature (f.spec 𝓤 H (𝓖 .A) (𝓜 .mem) (𝓡 .run)))
-    (tables 𝓤 H 𝓜 𝓡 code.env .C) (tables 𝓤 H 𝓜 𝓡 code.env .Λ) #radio-record·yaxo-hear-in code.function (code.unfolded 𝓤 H 𝓜 𝓡)
+    (tables 𝓤 H 𝓜 𝓡 code.env .C) (tables 𝓤 H 𝓜 𝓡 code.env .Λ) #radio-hear·yaxo-hear-in code.function (code.unfolded 𝓤 H 𝓜 𝓡)
     (meets 𝓤 H (𝓖 .A) (givenOf 𝓤 H 𝓜 𝓖) (𝓜 .mem) (𝓡 .run) (tablesOf 𝓤 H 𝓜 (tables 𝓤 H 𝓜 𝓡 code.env))
-    (cited 𝓤 H (G 𝓤 H (𝓖 .A) (𝓜 .mem) (𝓡 .run)) 𝓜 𝓡 code.env #radio-record·yaxo-hear g-def.routine code.calls-radio-record·yaxo-hear (g-thm.met 𝓤 H 𝓜 𝓖 𝓡)))
+    (cited 𝓤 H (G 𝓤 H (𝓖 .A) (𝓜 .mem) (𝓡 .run)) 𝓜 𝓡 code.env #radio-hear·yaxo-hear g-def.routine code.calls-radio-hear·yaxo-hear (g-thm.met 𝓤 H 𝓜 𝓖 𝓡)))

@@ -1,10 +1,10 @@
 -- `yaxo_hear` meets its contract: record and answer shown are ones that hearing promises, of the same record and setting.
 -- Assumes nothing.
 use mathlib.Core.Path.{ap₂}
-use Rattle.radio_record.specs.Receiver.{bothSeen}
+use Rattle.radio_hear.specs.Receiver.{bothSeen}
 use borrow.Author.Needs.{needs}
-use Rattle.radio_record.proofs.yaxo_hear.Statement.{statement}
-use Rattle.radio_record.proofs.yaxo_hear.Tie as tie
+use Rattle.radio_hear.proofs.yaxo_hear.Statement.{statement}
+use Rattle.radio_hear.proofs.yaxo_hear.Tie as tie
 
 record-of-requires : tie.Need-record-of-requires
 record-of-requires c κs = search needs

@@ -1,13 +1,13 @@
--- `trailer::area_at` meets its contract: a byte lies before the payload, in it, or in the trailer.
+-- `area_at` meets its contract: a byte lies before the payload, in it, or in the trailer.
 -- Assumes nothing.
 use mathlib.Core.Path.{_∙_}
 use Prim.Native.Nat.{_-_}
 use native.Mathlib.Omega.{arith}
 use borrow.Author.Needs.{needs}
 use lib.ListN.{length}
 use Rattle.frame.specs.Frame.Trailer.{sent-zero, sent-payload, sent-trailer}
-use Rattle.frame.proofs.trailer.area_at.Statement.{statement}
-use Rattle.frame.proofs.trailer.area_at.Tie as tie
+use Rattle.trailer.proofs.area_at.Statement.{statement}
+use Rattle.trailer.proofs.area_at.Tie as tie
 
 sub-end : tie.Need-sub-end
 sub-end c = search needs

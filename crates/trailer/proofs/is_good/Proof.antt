@@ -1,10 +1,10 @@
--- `trailer::is_good` meets its contract: `back` is beyond the area, or the bytes before the payload decide.
+-- `is_good` meets its contract: `back` is beyond the area, or the bytes before the payload decide.
 -- Assumes nothing.
 use native.Mathlib.Omega.{arith}
 use borrow.Author.Needs.{needs}
 use Rattle.frame.specs.Frame.Trailer.{good-long, good-within}
-use Rattle.frame.proofs.trailer.is_good.Statement.{statement}
-use Rattle.frame.proofs.trailer.is_good.Tie as tie
+use Rattle.trailer.proofs.is_good.Statement.{statement}
+use Rattle.trailer.proofs.is_good.Tie as tie
 
 sub-room : tie.Need-sub-room
 sub-room c = search needs

@@ -1,10 +1,9 @@
--- The receiver's calls for C (document 01, Receiver's record): the record as C lends it, what is seen of the one after a frame, and that no
+-- The record's calls for C (document 01, Receiver's record): the record as C lends it, what is seen of the one after a frame, and that no
 -- call has a second answer.
 -- Assumes nothing.
-use mathlib.Core.Path.{_≡_, refl, sym, ap, ap₂}
+use mathlib.Core.Path.{_≡_, refl, sym}
 use mathlib.Core.Bool.{Bool, true, false, not}
 use mathlib.Core.Logic.{_≢_}
-use mathlib.Core.List.{List}
 use Prim.Native.Nat.{ℕ}
 use native.Mathlib.Decide.{ℕ-discrete}
 use borrow.Author.Tests.{ne-eqb}
@@ -14,15 +13,7 @@ use Rattle.record.specs.Record.{freshRecord, standing, noted}
 use Rattle.record.specs.declared.Record.{Record}
 use Rattle.record.specs.declared.Kind.{Kind}
 use Rattle.record.specs.declared.Kind.the-variants.{Newer, Repeat, Older}
-use Rattle.link.specs.Receiver.{hearOutcome, heard}
-use Rattle.link.specs.Receiver.Laws.{hear-once}
-use Rattle.link.specs.declared.receiver.Heard.{Heard}
-use Rattle.answers.specs.Shown.{Shows, shown-once}
-use Rattle.radio_frame.specs.Frames.{framingOf, frameSeen}
-use Rattle.radio_frame.specs.declared.FrameSetting.{FrameSetting}
-use Rattle.radio_frame.specs.declared.FrameAnswer.{FrameAnswer}
 use Rattle.radio_record.specs.declared.LentRecord.{LentRecord}
-use Rattle.radio_record.specs.declared.HeardAnswer.{HeardAnswer}
 
 -- any byte but 0 says that a frame was accepted
 abbrev pub recordOf : LentRecord → Record
@@ -57,13 +48,6 @@ kindNumber Newer = 0
 kindNumber Repeat = 1
 kindNumber Older = 2
 
--- record and answer after a frame, with the record that was lent and the area that is left
-abbrev pub bothSeen : LentRecord → FrameAnswer → HeardAnswer
-bothSeen next answer = record { next = next; answer = answer }
-
-abbrev pub heardSeen : LentRecord → List ℕ → Heard → HeardAnswer
-heardSeen before area t = bothSeen (recordSeen before (t .next)) (frameSeen area (t .answer))
-
 -- ---- laws
 
 -- a fresh record says what the paper's does
@@ -94,7 +78,7 @@ flag-stays flag = elim (ℕ-discrete flag 0) [
 pub lent-stays : (h : LentRecord) → recordSeen h (recordOf h) ≡ h
 lent-stays h = rw (flag-stays (h .accepted))
 
--- ---- no second answer: of each call's answer, and of what it leaves in the lent record and area
+-- ---- no second answer: of each call's answer, and of what it leaves in the lent record
 
 pub fresh-record-once : (r q : LentRecord) → r ≡ freshLent → q ≡ freshLent → r ≡ q
 fresh-record-once r q p u = cc
@@ -107,11 +91,3 @@ standing-record-once accepted last new r q p u = cc
 pub note-record-once : (h : LentRecord) (answer new : ℕ) (r q : LentRecord) → r ≡ recordSeen h (noted (recordOf h) answer new)
     → q ≡ recordSeen h (noted (recordOf h) answer new) → r ≡ q
 note-record-once h answer new r q p u = cc
-
--- of `yaxo_hear`'s answer, and of what `yaxo_hear_in` answers and leaves
-pub hear-frame-once : (h : LentRecord) (s : FrameSetting) (marks slots area : List ℕ) (r q : HeardAnswer) (x y : List ℕ)
-    → Shows (heardSeen h x) (λ t. hearOutcome (t .answer) (t .next) x ≡ heard (recordOf h) (framingOf s) marks slots area) r
-    → Shows (heardSeen h y) (λ t. hearOutcome (t .answer) (t .next) y ≡ heard (recordOf h) (framingOf s) marks slots area) q → (r ≡ q) × (x ≡ y)
-hear-frame-once h s marks slots area r q x y p u =
-    let (a, n, l) = hear-once (recordOf h) (framingOf s) marks slots area (p .inner .answer) (u .inner .answer) (p .inner .next) (u .inner .next) x y (p .promised) (u .promised) in
-    (shown-once _ _ _ _ r q p u (ap (heardSeen h) l) (ap₂ (λ (k : Record) (t : _). record { next = k; answer = t }) n a), l)

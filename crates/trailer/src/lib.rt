@@ -1,12 +1,13 @@
-// The message area and its trailer: zeros, the payload, and in the last four bytes how far back it goes and the sequence number.
+// The message area and its trailer: document 01, section Block interleaver and frame. Zeros, the payload, and in the last four bytes how far
+// back it goes and the sequence number. What each call promises is defined in specs/ of `frame`, with the rest of a frame.
 ghost use mathlib.Core.Path.{_≡_};
 ghost use Prim.Native.Nat.{_+_, _<_, _≤_};
 ghost use lib.ListN.{length};
 ghost use Rattle.algebra.specs.Tests.{at};
 ghost use Rattle.frame.specs.Slots.{Copied};
 ghost use Rattle.frame.specs.Frame.{trailer, twoAt, areaByte, areaSent, zerosBefore, trailerGood, isDone, payloadOf};
-use crate::setting::Received;
-use crate::setting::Verdict;
+use frame::setting::Received;
+use frame::setting::Verdict;
 
 // Byte i of the trailer to be sent.
 fn trailer_at(back: u16, sequence: u16, i: usize) -> u8
