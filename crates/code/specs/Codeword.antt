@@ -8,7 +8,7 @@ use Prim.Native.Nat.{ℕ, _+_, _*_, _^_, _≤_, _<_}
 use lib.ListN.{length}
 use lib.Dec.{T, eqb, eqb→eq, eqb-refl, leb, leb→le, le→leb}
 use Rattle.algebra.specs.Tests.{each, below, both, first, second, each-at, each-all}
-use Rattle.field.specs.Field.{a^}
+use Rattle.elements.specs.Field.{a^}
 use Rattle.code.specs.Word.{value, errors, marked}
 use Rattle.code.specs.declared.Setting.{Setting}
 

@@ -12,9 +12,9 @@ use lib.Pow.{pow-pos}
 use Rattle.algebra.specs.Tests.{at, below, below-all, below-append}
 use Rattle.algebra.specs.Horner.{horner}
 use Rattle.algebra.specs.Register.{checks, checks-length, checks-root, checks-in}
-use Rattle.field.specs.Field.{modulus}
-use Rattle.field.specs.Products.{product-below}
-use Rattle.field.specs.Elements.{wide, known, K}
+use Rattle.elements.specs.Field.{modulus}
+use Rattle.elements.specs.Products.{product-below}
+use Rattle.elements.specs.Elements.{wide, known, K}
 use Rattle.code.specs.Setting.{Allowed}
 use Rattle.checks.specs.Roots.{root}
 use Rattle.code.specs.Codeword.{isCodeword, Codeword, is-codeword}

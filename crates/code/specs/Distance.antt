@@ -20,10 +20,10 @@ use Rattle.algebra.specs.Xor.{_⊕_, same-below}
 use Rattle.algebra.specs.Peel.{Rep, Apart}
 use Rattle.algebra.specs.Vandermonde.{unlike, near-once}
 use Rattle.algebra.specs.Horner.{pow, horner, coef, syndromes, places-apart}
-use Rattle.field.specs.Field.{mul, modulus, a^}
-use Rattle.field.specs.Products.{product-below}
-use Rattle.field.specs.Powers.{power-below}
-use Rattle.field.specs.Elements.{wide, known, K, pow-power, two-nz, order}
+use Rattle.elements.specs.Field.{mul, modulus, a^}
+use Rattle.elements.specs.Products.{product-below}
+use Rattle.elements.specs.Powers.{power-below}
+use Rattle.elements.specs.Elements.{wide, known, K, pow-power, two-nz, order}
 use Rattle.code.specs.Setting.{Allowed, named}
 use Rattle.checks.specs.Roots.{spots}
 use Rattle.peeling.specs.Places.{flagged}

@@ -10,7 +10,7 @@ use lib.Dec.{T, leb, leb→le, ltb, ltb→lt}
 use borrow.Author.Tests.{ne-eqb, le-leb, lt-ltb}
 use Rattle.algebra.specs.Tests.{below, first, second, passed}
 use Rattle.field.specs.Answers.{isField}
-use Rattle.field.specs.Elements.{wide, wide-3, wide-8}
+use Rattle.elements.specs.Elements.{wide, wide-3, wide-8}
 use Rattle.code.specs.declared.Setting.{Setting}
 
 -- m is 3 or 8; r is 2 to 16; n is r + 1 to 2^m - 1; b is 0 or 1

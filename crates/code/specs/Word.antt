@@ -3,7 +3,7 @@
 use mathlib.Core.List.{List, [], _∷_}
 use Prim.Native.Nat.{ℕ}
 use Rattle.algebra.specs.Xor.{_⊕_}
-use Rattle.field.specs.Field.{mul}
+use Rattle.elements.specs.Field.{mul}
 pub use Rattle.figures.specs.Figures.{errorAt, bitsAt, errorOf-marked, errorOf-same, errorOf-wrong}
 unfoldable pub use Rattle.figures.specs.Figures.{errorOf, errors, marked, bits}
 

@@ -1,7 +1,7 @@
 // The checks that every call makes before it looks at a word: document 01's refusals 1, 2 and 3, in that order.
 ghost use mathlib.Core.Path.{_≡_};
 ghost use Prim.Native.Nat.{_^_};
-ghost use Rattle.field.specs.Elements.{wide};
+ghost use Rattle.elements.specs.Elements.{wide};
 ghost use Rattle.code.specs.Setting.{allowed};
 ghost use Rattle.code.specs.Answers.{refusal, sized, proper};
 use crate::Setting;

@@ -1,10 +1,2 @@
-pub mod Field
-pub mod Products
-pub mod Tables
-pub mod Powers
-pub mod Gf3
-pub mod Gf8
-pub mod Elements
 pub mod Answers
 pub mod Once
-pub mod Lanes

@@ -10,7 +10,7 @@ use lib.ListN.{replicate}
 use Rattle.algebra.specs.Xor.{_⊕_}
 use Rattle.algebra.specs.Tests.{total, each, below, firstBelow}
 use Rattle.algebra.specs.Lists.{tabulate}
-use Rattle.field.specs.Field.{times, reduce, product, power}
+use Rattle.elements.specs.Field.{times, reduce, product, power}
 use Rattle.field.specs.Answers.{isField}
 use Rattle.code.specs.Setting.{allowed}
 use Rattle.code.specs.Word.{valueFrom, errorOf, errors, marked, bits}

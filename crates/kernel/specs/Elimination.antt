@@ -16,7 +16,7 @@ use Rattle.algebra.specs.Sets.{count, count-all, count-pos, count-drop}
 use Rattle.algebra.specs.Tests.{at, each, each-at, below, below-at}
 use Rattle.algebra.specs.Lists.{Filled}
 use Rattle.algebra.specs.Kernel.{Fine, Fine-unit, Fine-keep, Fine-comb, Fine-ext, Fine-same, comb, dot-ext}
-use Rattle.field.specs.Elements.{K, wide, known, one-below}
+use Rattle.elements.specs.Elements.{K, wide, known, one-below}
 use Rattle.kernel.specs.Rows.{row, rowDot, Combined}
 
 -- the vector s has degree s, and is orthogonal to the windows of sums below j

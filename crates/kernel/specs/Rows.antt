@@ -13,8 +13,8 @@ use Rattle.algebra.specs.Tests.{at}
 use Rattle.algebra.specs.Lists.{Filled}
 use Rattle.algebra.specs.Xor.{xor-assoc}
 use Rattle.algebra.specs.Kernel.{dot, dot-zero, dot-suc, dot-ext}
-use Rattle.field.specs.Elements.{K, prod}
-use Rattle.field.specs.Lanes.{Products, scaled-left}
+use Rattle.elements.specs.Elements.{K, prod}
+use Rattle.lanes.specs.Lanes.{Products, scaled-left}
 
 -- the numbers of v from b on
 abbrev pub row : List ℕ → ℕ → ℕ → ℕ

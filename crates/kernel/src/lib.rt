@@ -10,7 +10,7 @@ ghost use Rattle.algebra.specs.Tests.{at};
 ghost use Rattle.algebra.specs.Lists.{Filled};
 ghost use Rattle.kernel.specs.Rows.{row, rowDot, Combined};
 ghost use Rattle.kernel.specs.Elimination.{living, Units, Eliminated, Pivot, Clearing, KernelVector};
-use field::lanes::products;
+use lanes::products;
 
 // Sixteen numbers from b on.
 fn lanes(v: &[u8], b: usize) -> [u8; 16]
@@ -64,7 +64,7 @@ fn pivot(m: usize, v: &[u8; 88], alive: &[u8; 9], d: usize, sums: &[u8; 24], j: 
     while s < d {
         if 0 < alive[s] {
             let y = dot(m, v, s * 9, d, sums, j);
-            if field::shifts::low(m, y) != 0 {
+            if shifts::low(m, y) != 0 {
                 return s;
             }
         }

@@ -12,7 +12,7 @@ use lib.Bits.{bitXor}
 use lib.ListN.{length, set}
 use lib.Seq.{getD-set-same, getD-set-other}
 use Rattle.algebra.specs.Tests.{at}
-use Rattle.field.specs.Elements.{prod}
+use Rattle.elements.specs.Elements.{prod}
 use Rattle.peeling.specs.Places.{locator}
 use Rattle.peeling.specs.Peeling.{Peeled, PeeledAll, distanceOf, Peeling, peeling-take, peeling-pass, peeling-end, Nearing, nearing-take, nearing-pass, nearing-end}
 

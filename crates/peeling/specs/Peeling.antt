@@ -13,8 +13,8 @@ use Rattle.algebra.specs.Ring.{mul-comm}
 use Rattle.algebra.specs.Tests.{at}
 use Rattle.algebra.specs.Sets.{count, one-yes, one-no}
 use Rattle.algebra.specs.Peel.{peel, peels, peels-zero, peels-yes, peels-no, far, far-zero, far-yes, far-no}
-use Rattle.field.specs.Elements.{K, prod}
-use Rattle.field.specs.Lanes.{Products, scaled-left}
+use Rattle.elements.specs.Elements.{K, prod}
+use Rattle.lanes.specs.Lanes.{Products, scaled-left}
 use Rattle.peeling.specs.Places.{locator, spare}
 
 -- the sums without a place of locator x

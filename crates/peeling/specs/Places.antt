@@ -8,7 +8,7 @@ use Prim.Native.Nat.{ℕ, suc, _-_, _<_}
 use native.Mathlib.Decide.{ℕ-discrete, decLt}
 use Rattle.algebra.specs.Tests.{at}
 use Rattle.algebra.specs.Horner.{pow}
-use Rattle.field.specs.Elements.{K}
+use Rattle.elements.specs.Elements.{K}
 
 -- the locator of the coefficient k
 abbrev pub locator : ℕ → ℕ → ℕ

@@ -6,8 +6,8 @@ ghost use lib.ListN.{length};
 ghost use Rattle.peeling.specs.Places.{Locators};
 ghost use Rattle.peeling.specs.Peeling.{Peeled, PeeledAll};
 ghost use Rattle.peeling.specs.Listing.{Inside, Listed, PeeledListed, Distant};
-use field::lanes::products;
-use field::shifts::times;
+use lanes::products;
+use shifts::times;
 
 // The sums without a place of locator x: one less of them counts.
 pub fn peel(m: usize, sums: [u8; 16], x: u8) -> [u8; 16]

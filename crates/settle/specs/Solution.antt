@@ -21,7 +21,7 @@ use Rattle.algebra.specs.Polynomials.{ev}
 use Rattle.algebra.specs.Peel.{Places, Rep, peels, peels-same, far, far-same, far-cancel}
 use Rattle.algebra.specs.Horner.{pow, horner, coef, syndromes}
 use Rattle.algebra.specs.Decoding.{Run, cand, others, cand-few, decoded}
-use Rattle.field.specs.Elements.{wide, K}
+use Rattle.elements.specs.Elements.{wide, K}
 use Rattle.code.specs.Setting.{Allowed, limits}
 use Rattle.checks.specs.Roots.{spots}
 use Rattle.peeling.specs.Places.{locator, flagged, spare}

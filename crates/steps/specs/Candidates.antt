@@ -14,7 +14,7 @@ use Rattle.algebra.specs.Tests.{at}
 use Rattle.algebra.specs.Lists.{Filled, filled-more}
 use Rattle.algebra.specs.Horner.{pow}
 use Rattle.algebra.specs.Polynomials.{ev, ev-ext}
-use Rattle.field.specs.Elements.{wide, K, prod}
+use Rattle.elements.specs.Elements.{wide, K, prod}
 use Rattle.peeling.specs.Places.{locator, Locators}
 use Rattle.checks.specs.Syndromes.{laneAfter}
 

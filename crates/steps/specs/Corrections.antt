@@ -18,9 +18,9 @@ use Rattle.algebra.specs.Lists.{Filled, filled-none, filled-more}
 use Rattle.algebra.specs.Sets.{count}
 use Rattle.algebra.specs.Peel.{Places, Rep, Rep-add, Rep-same, Rep-one, pw, pw-zero, pw-suc}
 use Rattle.algebra.specs.Horner.{pow, coef}
-use Rattle.field.specs.Field.{modulus}
-use Rattle.field.specs.Products.{product-one, product-below}
-use Rattle.field.specs.Elements.{K, wide, prod, known, one-below, two-below, prod-small}
+use Rattle.elements.specs.Field.{modulus}
+use Rattle.elements.specs.Products.{product-one, product-below}
+use Rattle.elements.specs.Elements.{K, wide, prod, known, one-below, two-below, prod-small}
 use Rattle.checks.specs.Roots.{spots}
 use Rattle.peeling.specs.Places.{locator, spare}
 use Rattle.peeling.specs.Peeling.{peeledOf, distanceOf}

@@ -4,11 +4,11 @@ ghost use Prim.Native.Nat.{_<_, _≤_};
 ghost use Rattle.peeling.specs.Places.{Locators};
 ghost use Rattle.peeling.specs.Listing.{Inside};
 ghost use Rattle.steps.specs.Corrections.{Weighs, ErrorListed, TakenOut, Corrected};
-use field::shifts::times;
-use field::tables::inverse_at;
 use peeling::distance;
 use peeling::list;
 use peeling::peel_listed;
+use shifts::times;
+use tables::inverse_at;
 
 // The weight of a place of locator x in the first power sum of a code whose roots begin at a^b: x^b.
 fn weight(b: usize, x: u8) -> u8

@@ -5,12 +5,12 @@ ghost use lib.ListN.{length};
 ghost use Rattle.algebra.specs.Tests.{at};
 ghost use Rattle.algebra.specs.Lists.{Filled};
 ghost use Rattle.algebra.specs.Polynomials.{ev};
-ghost use Rattle.field.specs.Elements.{K};
+ghost use Rattle.elements.specs.Elements.{K};
 ghost use Rattle.peeling.specs.Places.{Locators};
 ghost use Rattle.steps.specs.Candidates.{flagOf, raisedAt, Candidates};
-use field::shifts::double;
-use field::shifts::low;
-use field::shifts::times;
+use shifts::double;
+use shifts::low;
+use shifts::times;
 
 // The locator of every place of a word of n: the last place has 1, and each place before it the double of the one behind.
 pub fn locators(m: usize, n: usize) -> [u8; 255]
@@ -28,7 +28,7 @@ pub fn locators(m: usize, n: usize) -> [u8; 255]
     table
 }
 
-// One turn of Horner's rule at each of the first n points. The product stands twice for the reason given at `field::lanes::products`.
+// One turn of Horner's rule at each of the first n points. The product stands twice for the reason given at `lanes::products`.
 fn raise(m: usize, n: usize, values: [u8; 255], points: &[u8; 255], symbol: u8) -> [u8; 255]
     requires { ⌜ n ≤ 255 ⌝ }
     ensures { λ r. ⌜ Filled 255 (raisedAt m symbol values (now (points .entry))) n r ⌝ }

@@ -11,7 +11,7 @@ use lib.ListN.{length, take}
 use lib.Dec.{T, eqb, eqb→eq}
 use borrow.Author.Tests.{eq-eqb, ne-eqb}
 use Rattle.algebra.specs.Tests.{if_then_else_, below}
-use Rattle.field.specs.Elements.{wide}
+use Rattle.elements.specs.Elements.{wide}
 use Rattle.code.specs.Setting.{allowed, messageSize, limits, named}
 use Rattle.code.specs.Code.{encoded, corrected}
 use Rattle.code.specs.Answers.{numberOf, figuresOf, encodedNumber, noFigures, Outcome, outcome, encodeOutcome, refused, refusal, unless, figures, settle, sized, proper, decoded, decodedPart, encodes}

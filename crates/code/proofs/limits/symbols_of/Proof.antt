@@ -1,6 +1,6 @@
 -- `code::limits::symbols_of` meets its contract: the width of the field is 3 or 8.
 -- Assumes nothing.
-use Rattle.field.specs.Elements.{wide-3, wide-8}
+use Rattle.elements.specs.Elements.{wide-3, wide-8}
 use Rattle.code.proofs.limits.symbols_of.Statement.{statement}
 use Rattle.code.proofs.limits.symbols_of.Tie as tie
 

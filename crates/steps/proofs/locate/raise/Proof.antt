@@ -7,7 +7,7 @@ use Prim.Native.Nat.{_-_, _≤_}
 use native.Mathlib.Omega.{arith}
 use borrow.Author.Needs.{needs}
 use Rattle.algebra.specs.Lists.{Filled, filled-none}
-use Rattle.field.specs.Elements.{wide, wide-3, wide-8}
+use Rattle.elements.specs.Elements.{wide, wide-3, wide-8}
 use Rattle.steps.specs.Candidates.{raisedAt, raised-more}
 use Rattle.steps.proofs.locate.raise.Statement.{statement}
 use Rattle.steps.proofs.locate.raise.Tie as tie
