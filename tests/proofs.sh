@@ -9,8 +9,8 @@ if grep -rnE '^ *axiom ' crates --include='*.antt'; then
   echo "an axiom"
   status=1
 fi
-# These are the crates whose calls a user makes. All others are inner crates, whose calls may ask something; what `word` hands on of `code`, and `link` of `frame`
-# and `trailer`, may not. The crates `radio_*`, whose calls C makes, stand below.
+# These are the crates whose calls a user makes. All others are inner crates, whose calls may ask something; what `word` hands on of `code`, and
+# `link` of `frame` and `trailer`, may not. The crates `radio_*`, whose calls C makes, stand below.
 for library in field word record sender receiver interleave cross_sender cross_receiver frame_out frame_in link reader; do
   for call in $(sed -n 's/^pub use [a-z_:]*::\([a-z_0-9]*\);$/\1/p; s/^pub fn \([a-z_0-9]*\).*/\1/p' "crates/$library/src/lib.rt"); do
     if cat "crates/$library"/src/*.rt crates/{code/src/limits,frame/src/setting,trailer/src/lib}.rt | sed -n "/^pub fn $call[<(]/,/^{/p" | grep -q requires; then
