@@ -3,10 +3,10 @@
 use mathlib.Core.Path.{_≡_}
 use mathlib.Core.List.{List, [], _∷_}
 use Prim.Native.Nat.{ℕ}
-use Rattle.frame_in.specs.FrameExample.{received-example}
+use Rattle.frame.specs.FrameExample.{received-example}
 use Rattle.frame.specs.Lists.{joined}
 use Rattle.text.specs.Text.{bytes, digitFrom, decimal, hexDigit, hex, hexes}
-use Rattle.frame_text.specs.Lines.{named, firstLine, wordLine, wordLines, frameText}
+use Rattle.reader.specs.Lines.{named, firstLine, wordLine, wordLines, frameText}
 use Rattle.reader.specs.Spoken.{blank, answerTo, told, spoken}
 
 abbrev input : List ℕ

@@ -6,7 +6,7 @@ use Prim.Native.Nat.{ℕ, _+_, _*_, _/_, _≤_}
 use lib.ListN.{length}
 use lib.Dec.{T}
 use Rattle.algebra.specs.Tests.{at, below}
-use Rattle.code.specs.Word.{errors, marked}
+use Rattle.word.specs.Word.{errors, marked}
 use Rattle.interleave.specs.Runs.{Hit}
 
 -- as many slots come as were sent, each a byte with a mark of 0 or 1

@@ -10,17 +10,17 @@ use lib.ListN.{length, take, replicate, length-replicate, getD-replicate}
 use lib.Seq.{ext-getD, length-take-le}
 use Rattle.algebra.specs.Tests.{at, below, below-at, below-all}
 use Rattle.algebra.specs.Lists.{length-tabulate}
-use Rattle.code.specs.Word.{errors, marked}
-use Rattle.code.specs.Codeword.{isCodeword, codeword}
-use Rattle.code.specs.Distance.{total-zero, errors-self, bits-self}
-use Rattle.code.specs.Code.{encoded}
-use Rattle.code.specs.Answers.{Outcome, outcome, noFigures, figures}
-use Rattle.code.specs.declared.Figures.{Figures}
-use Rattle.code.specs.declared.Decoded.the-variants.{Done}
-use Rattle.crossing.specs.Cross.{outerCode, innerCode, outerWord, due, opened, passedOn, markOf, orZeros, closed, received}
-use Rattle.crossing.specs.Codes.{outer-allowed, inner-allowed, outer-encoded, inner-encoded}
-use Rattle.crossing.specs.Calls.{SenderCalls, dueSent, sent-held, sends, ReceiverCalls, dueBytes, dueMarks, bytes-held, marks-held, receives}
-use Rattle.crossing.specs.declared.position.Received.{Received}
+use Rattle.word.specs.Word.{errors, marked}
+use Rattle.word.specs.Codeword.{isCodeword, codeword}
+use Rattle.word.specs.Distance.{total-zero, errors-self, bits-self}
+use Rattle.word.specs.Code.{encoded}
+use Rattle.word.specs.Answers.{Outcome, outcome, noFigures, figures}
+use Rattle.word.specs.declared.Figures.{Figures}
+use Rattle.word.specs.declared.Decoded.the-variants.{Done}
+use Rattle.cross.specs.Cross.{outerCode, innerCode, outerWord, due, opened, passedOn, markOf, orZeros, closed, received}
+use Rattle.cross.specs.Codes.{outer-allowed, inner-allowed, outer-encoded, inner-encoded}
+use Rattle.cross.specs.Calls.{SenderCalls, dueSent, sent-held, sends, ReceiverCalls, dueBytes, dueMarks, bytes-held, marks-held, receives}
+use Rattle.cross.specs.declared.position.Received.{Received}
 use Rattle.coverage.specs.Words.{encoded-code, encoded-size, encoded-message, Came, part-given}
 
 -- ---- the statement

@@ -13,15 +13,15 @@ use lib.Seq.{take-add, take-at, drop-at, take-all, length-take-le, getD-take, ge
 use lib.Dec.{T, ltb, lt→ltb}
 use Rattle.algebra.specs.Tests.{at, below, both, below-all, below-at, below-append, first-none, passed}
 use Rattle.algebra.specs.Lists.{length-tabulate}
-use Rattle.code.specs.Setting.{allowed, messageSize, allowed-yes}
-use Rattle.code.specs.Code.{encoded}
+use Rattle.word.specs.Setting.{allowed, messageSize, allowed-yes}
+use Rattle.word.specs.Code.{encoded}
 use Rattle.frame.specs.Lists.{joined, part, within}
 use Rattle.frame.specs.Slots.{wordIn, word-back}
 use Rattle.frame.specs.Frame.{wordSetting, areaSize, allowedFrame, two, twoAt, trailer, areaSent, wordSent, slotsSent, trailerGood, correctedWord, isNone, messageOf, beyond, areaReceived, figuresReceived, payloadOf, answered, received, numberOf}
 use Rattle.frame.specs.Frame.Limits.{FrameAllowed, frame-kept, area-few}
 use Rattle.frame.specs.Frame.Trailer.{length-sent, sent-zero, sent-trailer, zeros-all, good-within, payload-there}
-use Rattle.frame_out.specs.Sending.{send-done, send-once}
-use Rattle.frame_in.specs.Receiving.{settled-good, decoded-settled, receive-decoded, receive-once}
+use Rattle.frame.specs.Sending.{send-done, send-once}
+use Rattle.frame.specs.Receiving.{settled-good, decoded-settled, receive-decoded, receive-once}
 use Rattle.frame.specs.declared.setting.Framing.{Framing}
 use Rattle.frame.specs.declared.setting.Received.{Received}
 use Rattle.frame.specs.declared.setting.Sent.the-variants as S

@@ -8,17 +8,17 @@ use lib.ListN.{length, take, replicate}
 use lib.Dec.{T}
 use Rattle.algebra.specs.Tests.{at, below}
 use Rattle.algebra.specs.Lists.{tabulate}
-use Rattle.code.specs.Setting.{allowed, messageSize}
-use Rattle.code.specs.Answers.{numberOf, outcome, decoded, decodedPart, encodeOutcome, encodes}
-use Rattle.code.specs.declared.Setting.{Setting}
-use Rattle.code.specs.declared.Encoded.{Encoded}
-use Rattle.code.specs.declared.Decoded.{Decoded}
-use Rattle.line.specs.Setting.{memorySize}
-use Rattle.line.specs.Promises.{FreshSender, SendStep, SendRun, FreshReceiver, ReceiveStep, ReceiveRun}
-use Rattle.line.specs.declared.setting.Line.{Line}
-use Rattle.line.specs.declared.setting.Ready.{Ready}
-use Rattle.line.specs.declared.setting.Sent.{Sent}
-use Rattle.line.specs.declared.setting.Received.{Received}
+use Rattle.word.specs.Setting.{allowed, messageSize}
+use Rattle.word.specs.Answers.{numberOf, outcome, decoded, decodedPart, encodeOutcome, encodes}
+use Rattle.word.specs.declared.Setting.{Setting}
+use Rattle.word.specs.declared.Encoded.{Encoded}
+use Rattle.word.specs.declared.Decoded.{Decoded}
+use Rattle.interleave.specs.Setting.{memorySize}
+use Rattle.interleave.specs.Promises.{FreshSender, SendStep, SendRun, FreshReceiver, ReceiveStep, ReceiveRun}
+use Rattle.interleave.specs.declared.line.Line.{Line}
+use Rattle.interleave.specs.declared.line.Ready.{Ready}
+use Rattle.interleave.specs.declared.line.Sent.{Sent}
+use Rattle.interleave.specs.declared.line.Received.{Received}
 use Rattle.coverage.specs.Channel.{Channel, Within, Each}
 
 -- ---- the setting

@@ -11,16 +11,16 @@ use lib.Seq.{getD-append-add, ext-getD}
 use lib.Dec.{T}
 use Rattle.algebra.specs.Tests.{at, below-at}
 use Rattle.algebra.specs.Lists.{tabulate, tabulated, length-tabulate, getD-tabulate, tabulate-same}
-use Rattle.code.specs.Setting.{messageSize, limits, at-most}
-use Rattle.code.specs.Code.{encoded}
-use Rattle.code.specs.Codeword.{isCodeword, codeword}
+use Rattle.word.specs.Setting.{messageSize, limits, at-most}
+use Rattle.word.specs.Code.{encoded}
+use Rattle.word.specs.Codeword.{isCodeword, codeword}
 use Rattle.rings.specs.Marks.{Marks, marks-same}
-use Rattle.line.specs.Line.{sent, received, reachable}
-use Rattle.line.specs.Setting.{memorySize, lineAt, receiverRefusal, runRefusal, Fine, line-done, receiver-done, run-done}
-use Rattle.line.specs.Setting as L
-use Rattle.line.specs.Steps.{blank}
-use Rattle.line.specs.Calls.{sends-run, receives-run}
-use Rattle.line.specs.declared.setting.Ready.{Ready}
+use Rattle.interleave.specs.Line.{sent, received, reachable}
+use Rattle.interleave.specs.Setting.{memorySize, lineAt, receiverRefusal, runRefusal, Fine, line-done, receiver-done, run-done}
+use Rattle.interleave.specs.Setting as L
+use Rattle.interleave.specs.Steps.{blank}
+use Rattle.interleave.specs.Calls.{sends-run, receives-run}
+use Rattle.interleave.specs.declared.line.Ready.{Ready}
 use Rattle.interleave.specs.Runs.{slotOf}
 use Rattle.interleave.specs.Damage.{line-place, line-found}
 use Rattle.coverage.specs.Channel.{Channel}

@@ -8,12 +8,12 @@ use lib.ListN.{length, length-append, List·getD-append}
 use lib.Seq.{getD-append-add}
 use Rattle.rings.specs.Delay.{kept-length}
 use Rattle.rings.specs.Marks.{Marks, marks-kept}
-use Rattle.line.specs.Setting.{lineRefusal, Fine, line-done, advanced-fine, runRefusal, run-done, StepFine}
-use Rattle.line.specs.Steps.{sendStep, sendMemory, Sending, sender, sendSteps, send-done, send-kept, receiveStep, receiveMemory, receiveMarks, Receiving, receiver, receiveSteps, receive-given, receive-kept, receive-held}
-use Rattle.line.specs.declared.setting.Line.{Line}
-use Rattle.line.specs.declared.setting.Ready.{Ready}
-use Rattle.line.specs.declared.setting.Sent.{Sent}
-use Rattle.line.specs.declared.setting.Received.{Received}
+use Rattle.interleave.specs.Setting.{lineRefusal, Fine, line-done, advanced-fine, runRefusal, run-done, StepFine}
+use Rattle.interleave.specs.Steps.{sendStep, sendMemory, Sending, sender, sendSteps, send-done, send-kept, receiveStep, receiveMemory, receiveMarks, Receiving, receiver, receiveSteps, receive-given, receive-kept, receive-held}
+use Rattle.interleave.specs.declared.line.Line.{Line}
+use Rattle.interleave.specs.declared.line.Ready.{Ready}
+use Rattle.interleave.specs.declared.line.Sent.{Sent}
+use Rattle.interleave.specs.declared.line.Received.{Received}
 use Rattle.coverage.specs.Line.{SenderCalls, ReceiverCalls}
 
 -- ---- the sender

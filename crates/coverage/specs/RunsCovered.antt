@@ -13,8 +13,8 @@ use lib.Dec.{eqb}
 use Rattle.algebra.specs.Tests.{at, oneIf, total, total-same}
 use Rattle.algebra.specs.Sets.{count, count-mono, one-yes}
 use Rattle.algebra.specs.Lists.{tabulate, length-tabulate, getD-tabulate, tabulate-same}
-use Rattle.code.specs.Word.{errorOf, errorOf-same, errorOf-marked, errors, marked}
-use Rattle.code.specs.Distance.{total-zero}
+use Rattle.word.specs.Word.{errorOf, errorOf-same, errorOf-marked, errors, marked}
+use Rattle.word.specs.Distance.{total-zero}
 use Rattle.interleave.specs.Block.{in-block}
 use Rattle.interleave.specs.Runs.{in?, hit?, Clear, run, runs, block-spaced, slotOf, line-spaced, line-near}
 use Rattle.frame.specs.Frame.{slotCount}

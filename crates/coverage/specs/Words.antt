@@ -10,18 +10,18 @@ use lib.ListN.{length, take}
 use lib.Dec.{T}
 use Rattle.algebra.specs.Tests.{below, below-all, passed}
 use Rattle.algebra.specs.Lists.{tabulate, length-tabulate, getD-tabulate}
-use Rattle.code.specs.Setting.{allowed, messageSize}
-use Rattle.code.specs.Codeword.{isCodeword, qualifies, codeword, is-near}
-use Rattle.code.specs.Code.{encoded, corrected}
-use Rattle.code.specs.Code.Laws.{qualifies-once, corrected-only, encoded-codeword, encoded-begins}
-use Rattle.code.specs.Answers.{numberOf, outcome, decoded, decodedPart, encodeOutcome, encodes, refusal, sized, proper, figures}
-use Rattle.code.specs.Answers.Laws.{refusal-none, sized-both, decode-found, decode-once, part-found, decode-part-once, encode-done, encode-once}
-use Rattle.code.specs.declared.Setting.{Setting}
-use Rattle.code.specs.declared.Figures.{Figures}
-use Rattle.code.specs.declared.Decoded.{Decoded}
-use Rattle.code.specs.declared.Decoded.the-variants.{Done}
-use Rattle.code.specs.declared.Encoded.{Encoded}
-use Rattle.code.specs.declared.Encoded.the-variants as E
+use Rattle.word.specs.Setting.{allowed, messageSize}
+use Rattle.word.specs.Codeword.{isCodeword, qualifies, codeword, is-near}
+use Rattle.word.specs.Code.{encoded, corrected}
+use Rattle.word.specs.Code.Laws.{qualifies-once, corrected-only, encoded-codeword, encoded-begins}
+use Rattle.word.specs.Answers.{numberOf, outcome, decoded, decodedPart, encodeOutcome, encodes, refusal, sized, proper, figures}
+use Rattle.word.specs.Answers.Laws.{refusal-none, sized-both, decode-found, decode-once, part-found, decode-part-once, encode-done, encode-once}
+use Rattle.word.specs.declared.Setting.{Setting}
+use Rattle.word.specs.declared.Figures.{Figures}
+use Rattle.word.specs.declared.Decoded.{Decoded}
+use Rattle.word.specs.declared.Decoded.the-variants.{Done}
+use Rattle.word.specs.declared.Encoded.{Encoded}
+use Rattle.word.specs.declared.Encoded.the-variants as E
 use Rattle.coverage.specs.Channel.{Within}
 
 pub tabulate-below : (q n : ℕ) (f : ℕ → ℕ) → ((i : ℕ) → i < n → f i < q) → T (below q (tabulate n f))

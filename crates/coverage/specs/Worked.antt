@@ -9,8 +9,8 @@ use lib.Dec.{lit≤}
 use lib.ListN.{replicate}
 use Rattle.algebra.specs.Tests.{total, below}
 use Rattle.algebra.specs.Lists.{tabulate}
-use Rattle.code.specs.Word.{errorOf, errors, marked}
-use Rattle.frame_in.specs.FrameExample.{example, slotsOut, slotsIn, sent-example}
+use Rattle.word.specs.Word.{errorOf, errors, marked}
+use Rattle.frame.specs.FrameExample.{example, slotsOut, slotsIn, sent-example}
 use Rattle.frame.specs.declared.setting.Sent.the-variants.{Done}
 use Rattle.coverage.specs.Frame.{Frame, FrameWithin, Arrives}
 

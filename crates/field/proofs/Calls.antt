@@ -7,8 +7,8 @@ use Prim.Native.Nat.{ℕ, _%_, _^_, _<_}
 use native.Mathlib.Nat.{mod-eq-of-lt}
 use native.Mathlib.Omega.{arith}
 use borrow.Author.Tests.{not-true, not-false, ltb-true}
-use Rattle.elements.specs.Field.{mul, a^}
-use Rattle.elements.specs.Elements.{wide, prod}
+use Rattle.field.specs.Field.{mul, a^}
+use Rattle.field.specs.Elements.{wide, prod}
 use Rattle.field.specs.Answers.{isField, isElement, productOf, powerOf, inverseOf}
 use Rattle.field.specs.Once.{wide-field, inverse-is}
 use Rattle.field.specs.declared.Element.the-variants.{Is}

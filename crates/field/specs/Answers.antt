@@ -4,7 +4,7 @@ use mathlib.Core.Bool.{Bool, _&&_, _||_, not}
 use Prim.Native.Nat.{ℕ, _^_}
 use lib.Dec.{ltb, eqb}
 use Rattle.algebra.specs.Tests.{if_then_else_, firstBelow}
-use Rattle.elements.specs.Field.{mul, a^}
+use Rattle.field.specs.Field.{mul, a^}
 use Rattle.field.specs.declared.Element.{Element}
 use Rattle.field.specs.declared.Element.the-variants.{Is, BadField, BadSymbol}
 

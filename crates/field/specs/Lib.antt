@@ -1,2 +1,10 @@
+pub mod Field
+pub mod Products
+pub mod Tables
+pub mod Powers
+pub mod Gf3
+pub mod Gf8
+pub mod Elements
+pub mod Lanes
 pub mod Answers
 pub mod Once

@@ -9,8 +9,8 @@ use borrow.Author.Tests.{eqb-true, eq-eqb, ne-eqb, lt-ltb}
 use lib.Dec.{eqb}
 use Rattle.algebra.specs.Xor.{_⊕_}
 use Rattle.algebra.specs.Tests.{first-is}
-use Rattle.elements.specs.Field.{mul}
-use Rattle.elements.specs.Elements.{wide, wide-3, wide-8, Known, known, inverse, inverse-below, inverse-one, undo}
+use Rattle.field.specs.Field.{mul}
+use Rattle.field.specs.Elements.{wide, wide-3, wide-8, Known, known, inverse, inverse-below, inverse-one, undo}
 use Rattle.field.specs.Answers.{isField, isElement, productOf, powerOf, inverseOf}
 use Rattle.field.specs.declared.Element.{Element}
 use Rattle.field.specs.declared.Element.the-variants.{Is}

@@ -1,8 +1,12 @@
 // The fields of 8 and of 256 elements: document 01, section Field. Sum, product, powers and inverse as calls that refuse what is no
-// field or no element. The crates `shifts`, `lanes` and `tables` have the same for the word code, which has checked its setting already.
+// field or no element. The modules have the same for the word code, which has checked its setting already.
+pub mod lanes;
+pub mod shifts;
+pub mod tables;
+
 ghost use mathlib.Core.Path.{_≡_};
 ghost use Rattle.field.specs.Answers.{isField, isElement, productOf, powerOf, inverseOf};
-ghost use Rattle.elements.specs.Elements.{wide};
+ghost use Rattle.field.specs.Elements.{wide};
 ghost use Rattle.algebra.specs.Xor.{_⊕_};
 
 // What a call answers: an element, or why there is none. Their numbers are document 01's 0, 1 and 3.

@@ -9,11 +9,11 @@ use lib.ListN.{length, take, drop, replicate}
 use lib.Dec.{leb, ltb, eqb}
 use Rattle.algebra.specs.Tests.{if_then_else_, at, each, below, firstBelow}
 use Rattle.algebra.specs.Lists.{tabulate}
-use Rattle.code.specs.Setting.{allowed, messageSize}
-use Rattle.code.specs.Code.{encoded, corrected}
-use Rattle.code.specs.Answers.{noFigures, figures}
-use Rattle.code.specs.declared.Setting.{Setting}
-use Rattle.code.specs.declared.Figures.{Figures}
+use Rattle.word.specs.Setting.{allowed, messageSize}
+use Rattle.word.specs.Code.{encoded, corrected}
+use Rattle.word.specs.Answers.{noFigures, figures}
+use Rattle.word.specs.declared.Setting.{Setting}
+use Rattle.word.specs.declared.Figures.{Figures}
 use Rattle.interleave.specs.Block.{spread}
 use Rattle.frame.specs.Lists.{joined, part}
 use Rattle.frame.specs.Slots.{wordIn}

@@ -1,5 +1,18 @@
-// A frame: document 01, section Block interleaver and frame. Its setting, what its calls answer, and the slots of its words. The link sends
-// and receives with these; what sending and receiving promise, and what the message area holds, is defined in specs/Frame.antt.
+// A frame: document 01, section Block interleaver and frame. A payload and its sequence number are sent as one frame of interleaved words; a
+// received frame is decoded into a lent message area, which then holds the payload. What sending and receiving promise, and what the message
+// area holds, is defined in specs/, in the paper's order.
 pub mod numbers;
+mod receiver;
+mod sender;
 pub mod setting;
 pub mod slots;
+mod trailer;
+
+pub use receiver::receive;
+pub use sender::send;
+pub use setting::Framing;
+pub use setting::Received;
+pub use setting::Sent;
+pub use setting::Verdict;
+pub use setting::is_allowed;
+pub use trailer::payload;

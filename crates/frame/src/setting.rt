@@ -1,8 +1,8 @@
 // A frame's setting with its limits, and what the calls on a frame answer.
 ghost use mathlib.Core.Path.{_≡_};
 ghost use Rattle.frame.specs.Frame.{allowedFrame, wordSetting};
-use code::Figures;
-use code::Setting;
+use word::Figures;
+use word::Setting;
 
 // What a frame is set to: its depth, and its words' n, r and b. Its symbols are bytes.
 pub struct Framing {
@@ -54,7 +54,7 @@ pub fn words_of(f: Framing) -> Setting
 pub fn is_allowed(f: Framing) -> bool
     ensures { λ r. ⌜ r ≡ allowedFrame f ⌝ }
 {
-    if !code::limits::is_allowed(words_of(f)) {
+    if !word::limits::is_allowed(words_of(f)) {
         return false;
     }
     if f.depth < 1 {

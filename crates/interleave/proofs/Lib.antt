@@ -1,2 +1,5 @@
--- What would hide the line of argument where it is used.
+-- Laws that the proofs of this crate lean on.
+mod Bounds
+mod SendPassing
+mod ReceivePassing
 mod Walk

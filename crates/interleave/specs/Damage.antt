@@ -10,8 +10,8 @@ use native.Mathlib.Omega.{arith}
 use lib.ListN.{getD}
 use Rattle.algebra.specs.Sets.{count, count-mono}
 use Rattle.interleave.specs.Block.{spread, gather, slot-rule, place-rule}
-use Rattle.line.specs.Line.{sent, received, carried, delivered}
-use Rattle.line.specs.Setting.{Setting}
+use Rattle.interleave.specs.Line.{sent, received, carried, delivered}
+use Rattle.interleave.specs.Setting.{Setting}
 use Rattle.interleave.specs.Runs.{In, in?, run, Hit, hit?, runs, Clear, block-spaced, slotOf, line-spaced, line-near}
 
 abbrev pub differ? : (x y : ℕ) → Dec (x ≢ y)

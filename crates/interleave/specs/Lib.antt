@@ -1,3 +1,8 @@
 pub mod Block
+pub mod Line
+pub mod Setting
+pub mod Steps
+pub mod Promises
+pub mod Calls
 pub mod Runs
 pub mod Damage

@@ -1,19 +1,19 @@
 // The link: document 01, sections Block interleaver and frame, and Receiver's record. A payload and its sequence number are sent as one
 // frame of interleaved words; a received frame is decoded into a lent message area, which then holds the payload; and what each frame was
-// answered is noted in the receiver's record. Sending stands in `frame_out` and receiving in `frame_in`, so that each is proved apart.
+// answered is noted in the receiver's record..
+mod hearing;
 mod part;
-mod receiver;
 
 // Frames.
-pub use frame::setting::Framing;
-pub use frame::setting::Received;
-pub use frame::setting::Sent;
-pub use frame::setting::Verdict;
-pub use frame::setting::is_allowed;
-pub use frame_in::receive;
-pub use frame_out::send;
+pub use frame::Framing;
+pub use frame::Received;
+pub use frame::Sent;
+pub use frame::Verdict;
+pub use frame::is_allowed;
+pub use frame::payload;
+pub use frame::receive;
+pub use frame::send;
 pub use part::receive_part;
-pub use trailer::payload;
 
 // The receiver's record.
 pub use record::Kind;
@@ -24,6 +24,6 @@ pub use record::note_in;
 pub use record::standing_of;
 
 // The receiver's whole call.
-pub use receiver::Heard;
-pub use receiver::hear;
-pub use receiver::hear_in;
+pub use hearing::Heard;
+pub use hearing::hear;
+pub use hearing::hear_in;

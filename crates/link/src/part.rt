@@ -2,9 +2,9 @@
 ghost use mathlib.Core.Path.{_≡_};
 ghost use mathlib.Core.List.{map};
 ghost use Rattle.frame.specs.Frame.{received, handedBack};
-use frame::setting::Framing;
-use frame_in::receive;
-use trailer::payload;
+use frame::Framing;
+use frame::payload;
+use frame::receive;
 
 // Decodes a received frame into the lent area as `receive` does, and hands back the whole area and the payload as that part of it.
 pub fn receive_part<'a>(f: Framing, slots: &[u8], marks: &[u8], area: &'a mut [u8]) -> [&'a [u8]; 2]

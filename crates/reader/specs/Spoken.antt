@@ -8,7 +8,7 @@ use lib.ListN.{length, drop, replicate}
 use Rattle.algebra.specs.Tests.{if_then_else_, at}
 use Rattle.frame.specs.Frame.{slotCount, areaSize, allowedFrame, ReceiveOutcome, received}
 use Rattle.frame.specs.declared.setting.Framing.{Framing}
-use Rattle.frame_text.specs.Lines.{refusal, frameText}
+use Rattle.reader.specs.Lines.{refusal, frameText}
 pub mod Head
 pub mod Answers
 pub mod Decides

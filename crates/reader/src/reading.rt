@@ -7,9 +7,9 @@ ghost use Rattle.frame.specs.Frame.Limits.{FrameAllowed};
 ghost use Rattle.text.specs.Put.{Put};
 ghost use Rattle.reader.specs.Spoken.{blank, answerTo, told, textLeft, reported};
 use crate::head::framing;
+use crate::lines::put_frame;
+use crate::lines::put_refusal;
 use frame::numbers::number_of;
-use frame_text::put_frame;
-use frame_text::put_refusal;
 use link::Framing;
 use link::is_allowed;
 

@@ -8,14 +8,14 @@ use lib.Dec.{T}
 use lib.ListN.{length, take, length-append}
 use lib.Seq.{length-take-le, take-append-add, getD-take}
 use Rattle.algebra.specs.Tests.{at, below, below-all, below-append}
-use Rattle.code.specs.Setting.{allowed, Allowed, limits, messageSize}
-use Rattle.code.specs.Codeword.{is-codeword}
-use Rattle.code.specs.Distance.{own-field}
-use Rattle.code.specs.Completion.{codeword-from}
-use Rattle.code.specs.Code.{encoded}
-use Rattle.code.specs.Code.Laws.{encoded-only}
+use Rattle.word.specs.Setting.{allowed, Allowed, limits, messageSize}
+use Rattle.word.specs.Codeword.{is-codeword}
+use Rattle.word.specs.Distance.{own-field}
+use Rattle.word.specs.Completion.{codeword-from}
+use Rattle.word.specs.Code.{encoded}
+use Rattle.word.specs.Code.Laws.{encoded-only}
 use Rattle.checks.specs.Checks.{Checks}
-use Rattle.code.specs.declared.Setting.{Setting}
+use Rattle.word.specs.declared.Setting.{Setting}
 
 module _ (s : Setting) (ok : T (allowed s)) (message checks : List ℕ) (size : length message ≡ messageSize s) (room : length checks ≡ 16) where
   abbrev a : Allowed s

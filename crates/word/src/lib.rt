@@ -1,24 +1,56 @@
 // The word code: document 01, section Word code. A word of n symbols is encoded from its k message symbols, and a received one is
 // corrected in place, or its message handed to a part of an area. Every call checks its own input, in the paper's order. What each promises is
-// defined in `code`.
+// defined in specs/, in the paper's order.
+pub mod count;
+pub mod limits;
+pub mod numbers;
+pub mod settle;
+
 ghost use mathlib.Core.Path.{_≡_};
 ghost use Prim.Native.Nat.{_<_, _≤_};
-ghost use Rattle.code.specs.Answers.{outcome, encodeOutcome, encodes, decoded, decodedPart};
-ghost use Rattle.code.specs.Answers.Laws.{Refuses};
+ghost use Rattle.word.specs.Answers.{outcome, encodeOutcome, encodes, decoded, decodedPart};
+ghost use Rattle.word.specs.Answers.Laws.{Refuses};
 use buffers::all_below;
 use buffers::copy;
 use buffers::join;
 use checks::register::check_symbols;
-use code::limits::refusal;
-use code::limits::symbols_of;
+pub use limits::is_allowed;
+use limits::refusal;
+use limits::symbols_of;
 use settle::settle;
 
-// A code's setting and limits, and what its calls answer.
-pub use code::Decoded;
-pub use code::Encoded;
-pub use code::Figures;
-pub use code::Setting;
-pub use code::limits::is_allowed;
+// What a word code is set to: m bits a symbol, n symbols a word, r check symbols, and b, the power of a at which its zeros start.
+pub struct Setting {
+    pub m: usize,
+    pub n: usize,
+    pub r: usize,
+    pub b: usize,
+}
+
+// What an accepted word was found to have: unmarked wrong symbols, marked ones, and changed bits. It goes to C as it is.
+#[repr(C)]
+pub struct Figures {
+    pub errors: u16,
+    pub marked: u16,
+    pub bits: u16,
+}
+
+// What decoding answers. Its numbers are the paper's 0 to 4, in this order.
+pub enum Decoded {
+    Done(Figures),
+    BadSetting,
+    BadLength,
+    BadSymbol,
+    BeyondReach,
+}
+
+// What encoding answers. Its numbers are the paper's 0 to 3, in this order.
+pub enum Encoded {
+    Done,
+    BadSetting,
+    BadLength,
+    BadSymbol,
+}
 
 // Puts the k message symbols and the check symbols that make them a codeword into the word of n symbols.
 // Refused 1 for the setting, 2 for a length, 3 for a message symbol of 2^m or more; the word is then left as it was.

@@ -10,13 +10,13 @@ use lib.Dec.{T, lit≤}
 use lib.ListN.{length}
 use Rattle.algebra.specs.Xor.{_⊕_}
 use Rattle.algebra.specs.Tests.{total, each, below}
-use Rattle.elements.specs.Field.{times, reduce, product, power}
+use Rattle.field.specs.Field.{times, reduce, product, power}
 use Rattle.field.specs.Answers.{isField}
-use Rattle.code.specs.Setting.{allowed}
-use Rattle.code.specs.Word.{valueFrom, errorOf, errors, marked, errorOf-wrong}
-use Rattle.code.specs.Codeword.{isCodeword, qualifies, Codeword, Near, near, is-near}
-use Rattle.code.specs.Code.Laws.{corrected-only}
-use Rattle.code.specs.declared.Setting.{Setting}
+use Rattle.word.specs.Setting.{allowed}
+use Rattle.word.specs.Word.{valueFrom, errorOf, errors, marked, errorOf-wrong}
+use Rattle.word.specs.Codeword.{isCodeword, qualifies, Codeword, Near, near, is-near}
+use Rattle.word.specs.Code.Laws.{corrected-only}
+use Rattle.word.specs.declared.Setting.{Setting}
 
 -- m = 8, n = 3, r = 2, b = 0
 abbrev pub codeS : Setting

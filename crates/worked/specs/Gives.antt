@@ -9,16 +9,16 @@ use lib.ListN.{length}
 use Rattle.field.specs.Answers.{productOf}
 use Rattle.field.specs.declared.Element.{Element}
 use Rattle.field.specs.declared.Element.the-variants.{Is}
-use Rattle.code.specs.Answers.{outcome, encodeOutcome, encodes, decoded}
-use Rattle.code.specs.declared.Setting.{Setting}
-use Rattle.code.specs.declared.Encoded.{Encoded}
-use Rattle.code.specs.declared.Encoded.the-variants as E
-use Rattle.code.specs.declared.Decoded.{Decoded}
-use Rattle.code.specs.declared.Decoded.the-variants.{Done}
+use Rattle.word.specs.Answers.{outcome, encodeOutcome, encodes, decoded}
+use Rattle.word.specs.declared.Setting.{Setting}
+use Rattle.word.specs.declared.Encoded.{Encoded}
+use Rattle.word.specs.declared.Encoded.the-variants as E
+use Rattle.word.specs.declared.Decoded.{Decoded}
+use Rattle.word.specs.declared.Decoded.the-variants.{Done}
 use Rattle.interleave.specs.Block.{Spread}
-use Rattle.line.specs.Setting.{memorySize}
-use Rattle.line.specs.Promises.{FreshSender, SendRun, FreshReceiver, ReceiveRun}
-use Rattle.line.specs.declared.setting.Ready.{Ready}
+use Rattle.interleave.specs.Setting.{memorySize}
+use Rattle.interleave.specs.Promises.{FreshSender, SendRun, FreshReceiver, ReceiveRun}
+use Rattle.interleave.specs.declared.line.Ready.{Ready}
 use Rattle.record.specs.Record.{standing, noted, countedAs}
 use Rattle.record.specs.declared.Record.{Record}
 use Rattle.record.specs.declared.Kind.{Kind}

@@ -11,23 +11,23 @@ use native.Mathlib.Omega.{arith}
 use lib.Dec.{lit≤, lit<}
 use lib.ListN.{length}
 use Rattle.field.specs.Answers.{isField}
-use Rattle.code.specs.Setting.{Allowed, allowed, allowed-yes, allowed-no}
-use Rattle.code.specs.Code.{corrected}
-use Rattle.code.specs.Answers.{Outcome, outcome, encodeOutcome, encodes, decoded, decodedPart, refusal, unless, settle}
-use Rattle.code.specs.Answers.Laws.{decode-refused, part-setting, encode-setting, refusal-setting, decode-once, decode-part-once, encode-once}
-use Rattle.code.specs.declared.Setting.{Setting}
-use Rattle.code.specs.declared.Encoded.{Encoded}
-use Rattle.code.specs.declared.Encoded.the-variants as E
-use Rattle.code.specs.declared.Decoded.{Decoded}
-use Rattle.code.specs.declared.Decoded.the-variants.{BadSetting}
+use Rattle.word.specs.Setting.{Allowed, allowed, allowed-yes, allowed-no}
+use Rattle.word.specs.Code.{corrected}
+use Rattle.word.specs.Answers.{Outcome, outcome, encodeOutcome, encodes, decoded, decodedPart, refusal, unless, settle}
+use Rattle.word.specs.Answers.Laws.{decode-refused, part-setting, encode-setting, refusal-setting, decode-once, decode-part-once, encode-once}
+use Rattle.word.specs.declared.Setting.{Setting}
+use Rattle.word.specs.declared.Encoded.{Encoded}
+use Rattle.word.specs.declared.Encoded.the-variants as E
+use Rattle.word.specs.declared.Decoded.{Decoded}
+use Rattle.word.specs.declared.Decoded.the-variants.{BadSetting}
 use Rattle.rings.specs.Refusal.{need-no}
-use Rattle.line.specs.Setting as line
-use Rattle.line.specs.Setting.{memorySize, lineAt, lineRefusal, receiverRefusal, receiveRefusal, runRefusal}
-use Rattle.line.specs.Steps.{sendStep, sendMemory, receiveStep, receiveMemory, receiveMarks}
-use Rattle.line.specs.Promises.{FreshSender, FreshReceiver, SendStep, SendRun, ReceiveStep, ReceiveRun}
-use Rattle.line.specs.declared.setting.Ready.{Ready}
-use Rattle.line.specs.declared.setting.Sent.{Sent}
-use Rattle.line.specs.declared.setting.Received.{Received}
+use Rattle.interleave.specs.Setting as line
+use Rattle.interleave.specs.Setting.{memorySize, lineAt, lineRefusal, receiverRefusal, receiveRefusal, runRefusal}
+use Rattle.interleave.specs.Steps.{sendStep, sendMemory, receiveStep, receiveMemory, receiveMarks}
+use Rattle.interleave.specs.Promises.{FreshSender, FreshReceiver, SendStep, SendRun, ReceiveStep, ReceiveRun}
+use Rattle.interleave.specs.declared.line.Ready.{Ready}
+use Rattle.interleave.specs.declared.line.Sent.{Sent}
+use Rattle.interleave.specs.declared.line.Received.{Received}
 use Rattle.worked.specs.Slots.{sender-stands, receiver-stands}
 
 -- no call of the word code answers 1

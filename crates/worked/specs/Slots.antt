@@ -8,12 +8,12 @@ use lib.ListN.{length, getD}
 use Rattle.algebra.specs.Lists.{tabulate}
 use Rattle.rings.specs.Marks.{Marks}
 use Rattle.interleave.specs.Block.{BlockSetting, spread, block-done}
-use Rattle.line.specs.Line.{period, sent, received, reachable}
-use Rattle.line.specs.Setting.{Setting, Fine, memorySize, lineAt, lineRefusal, line-done, receiverRefusal, receiver-done}
-use Rattle.line.specs.Steps.{blank}
-use Rattle.line.specs.Promises.{SendRun, ReceiveRun}
-use Rattle.line.specs.Calls.{sends-run, receives-run}
-use Rattle.line.specs.declared.setting.Ready.{Ready}
+use Rattle.interleave.specs.Line.{period, sent, received, reachable}
+use Rattle.interleave.specs.Setting.{Setting, Fine, memorySize, lineAt, lineRefusal, line-done, receiverRefusal, receiver-done}
+use Rattle.interleave.specs.Steps.{blank}
+use Rattle.interleave.specs.Promises.{SendRun, ReceiveRun}
+use Rattle.interleave.specs.Calls.{sends-run, receives-run}
+use Rattle.interleave.specs.declared.line.Ready.{Ready}
 use Rattle.worked.specs.Gives.{Spreads, Sends, Receives}
 
 pub spreads : (J n : ℕ) (words : List ℕ) → BlockSetting J n → length words ≡ J * n → Spreads J n words (spread J n words)

@@ -8,20 +8,20 @@ use lib.Dec.{T, lit≤}
 use Rattle.algebra.specs.Xor.{_⊕_}
 use Rattle.algebra.specs.Tests.{total, each, below}
 use Rattle.algebra.specs.Lists.{tabulate}
-use Rattle.elements.specs.Field.{times, reduce, product, power}
+use Rattle.field.specs.Field.{times, reduce, product, power}
 use Rattle.field.specs.Answers.{isField, isElement, productOf}
-use Rattle.code.specs.Setting.{allowed}
-use Rattle.code.specs.Word.{valueFrom, errorOf, errors, marked, bits}
-use Rattle.code.specs.Codeword.{isCodeword, qualifies}
-use Rattle.code.specs.Answers.{refusal, sized, proper}
-use Rattle.code.specs.declared.Setting.{Setting}
-use Rattle.code.specs.declared.Decoded.the-variants.{BeyondReach}
+use Rattle.word.specs.Setting.{allowed}
+use Rattle.word.specs.Word.{valueFrom, errorOf, errors, marked, bits}
+use Rattle.word.specs.Codeword.{isCodeword, qualifies}
+use Rattle.word.specs.Answers.{refusal, sized, proper}
+use Rattle.word.specs.declared.Setting.{Setting}
+use Rattle.word.specs.declared.Decoded.the-variants.{BeyondReach}
 use Rattle.rings.specs.Rings.{ring, tri}
 use Rattle.rings.specs.Delay.{answer, memory, position, lineOut, lineKept}
 use Rattle.rings.specs.Marks.{marks-same}
 use Rattle.interleave.specs.Block.{transposed}
-use Rattle.line.specs.Line.{common, period}
-use Rattle.line.specs.Setting as line
+use Rattle.interleave.specs.Line.{common, period}
+use Rattle.interleave.specs.Setting as line
 use Rattle.record.specs.Record.{kind}
 use Rattle.record.specs.declared.Kind.the-variants.{Newer, Older}
 use Rattle.worked.specs.Gives.{Multiplies, Encodes, Decodes, accepted, Spreads, Sends, Receives, Judges}

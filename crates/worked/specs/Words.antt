@@ -7,15 +7,15 @@ use Prim.Native.Nat.{ℕ, _^_}
 use lib.Dec.{T}
 use lib.ListN.{length}
 use Rattle.algebra.specs.Tests.{below, passed}
-use Rattle.code.specs.Setting.{allowed, messageSize}
-use Rattle.code.specs.Codeword.{isCodeword, qualifies}
-use Rattle.code.specs.Code.Laws.{corrected-only, corrected-none, encoded-only}
-use Rattle.code.specs.Answers.{figures}
-use Rattle.code.specs.Answers.Laws.{decode-found, decode-lost, decode-once, encode-done, encode-once}
-use Rattle.code.specs.Means.{failed}
-use Rattle.code.specs.declared.Setting.{Setting}
-use Rattle.code.specs.declared.Encoded.the-variants as E
-use Rattle.code.specs.declared.Decoded.the-variants.{Done, BeyondReach}
+use Rattle.word.specs.Setting.{allowed, messageSize}
+use Rattle.word.specs.Codeword.{isCodeword, qualifies}
+use Rattle.word.specs.Code.Laws.{corrected-only, corrected-none, encoded-only}
+use Rattle.word.specs.Answers.{figures}
+use Rattle.word.specs.Answers.Laws.{decode-found, decode-lost, decode-once, encode-done, encode-once}
+use Rattle.word.specs.Means.{failed}
+use Rattle.word.specs.declared.Setting.{Setting}
+use Rattle.word.specs.declared.Encoded.the-variants as E
+use Rattle.word.specs.declared.Decoded.the-variants.{Done, BeyondReach}
 use Rattle.worked.specs.Gives.{Encodes, Decodes}
 
 pub made : (s : Setting) (message checks : List ℕ) → T (allowed s) → length message ≡ messageSize s → below (2 ^ s .m) message ≡ true

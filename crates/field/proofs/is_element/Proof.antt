@@ -2,7 +2,7 @@
 -- Assumes nothing.
 use borrow.Author.Needs.{needs}
 use borrow.Author.Tests.{lt-ltb}
-use Rattle.elements.specs.Elements.{wide-3, wide-8}
+use Rattle.field.specs.Elements.{wide-3, wide-8}
 use Rattle.field.specs.Answers.{isElement}
 use Rattle.field.proofs.is_element.Statement.{statement}
 use Rattle.field.proofs.is_element.Tie as tie

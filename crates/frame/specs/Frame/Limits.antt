@@ -8,8 +8,8 @@ use native.Mathlib.Omega.{arith}
 use lib.Dec.{T, leb, leb→le}
 use borrow.Author.Tests.{le-leb}
 use Rattle.algebra.specs.Tests.{first, second}
-use Rattle.code.specs.Setting.{allowed, Allowed, limits, allowed-yes}
-use Rattle.code.specs.declared.Setting.{Setting}
+use Rattle.word.specs.Setting.{allowed, Allowed, limits, allowed-yes}
+use Rattle.word.specs.declared.Setting.{Setting}
 use Rattle.frame.specs.Frame.{wordSetting, slotCount, areaSize, allowedFrame}
 use Rattle.frame.specs.declared.setting.Framing.{Framing}
 

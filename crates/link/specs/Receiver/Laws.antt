@@ -4,7 +4,7 @@ use mathlib.Core.Path.{_≡_, sym, ap, _∙_}
 use mathlib.Core.List.{List}
 use Prim.Native.Nat.{ℕ}
 use Rattle.frame.specs.Frame.{receiveOutcome, payloadOf, received, numberOf}
-use Rattle.frame_in.specs.Receiving.{receive-once}
+use Rattle.frame.specs.Receiving.{receive-once}
 use Rattle.record.specs.Record.{noted}
 use Rattle.link.specs.Receiver.{HearOutcome, hearOutcome, heard}
 use Rattle.frame.specs.declared.setting.Framing.{Framing}

@@ -16,7 +16,7 @@ use Rattle.frame.specs.Frame.Limits.{FrameAllowed, slots-few, area-few}
 use Rattle.frame.specs.declared.setting.Framing.{Framing}
 use Rattle.frame.specs.declared.setting.Received.{Received}
 use Rattle.text.specs.Put.{Put, put-size}
-use Rattle.frame_text.specs.Lines.{refusal, frameText}
+use Rattle.reader.specs.Lines.{refusal, frameText}
 use Rattle.reader.specs.Spoken.{framingOf, blank, answerTo, told, spoken, Left, textLeft, reported, wantedOf}
 
 -- ---- what is said of an answer

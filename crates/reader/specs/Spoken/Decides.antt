@@ -11,7 +11,7 @@ use lib.ListN.{length, take, drop, length-drop}
 use lib.Seq.{take-all, getD-take, length-take-le}
 use Rattle.frame.specs.Frame.{slotCount, allowedFrame, received}
 use Rattle.frame.specs.declared.setting.Framing.{Framing}
-use Rattle.frame_text.specs.Lines.{refusal}
+use Rattle.reader.specs.Lines.{refusal}
 use Rattle.reader.specs.Spoken.{framingOf, answerTo, told, spoken, wantedOf}
 use Rattle.reader.specs.Spoken.Head.{wanted-short, wanted-refused, wanted-slots}
 use Rattle.reader.specs.Spoken.Answers.{spoken-setting}

@@ -4,8 +4,8 @@ use mathlib.Core.Path.{_≡_, refl, sym, _∙_}
 use native.Mathlib.Omega.{arith}
 use borrow.Author.Needs.{needs}
 use borrow.Author.Tests.{not-true, not-false}
-use Rattle.code.specs.Setting.{limits, at-most}
-use Rattle.code.specs.Answers.Laws.{Checked, refusal-most, checked, decode-refused, decode-found, decode-lost}
+use Rattle.word.specs.Setting.{limits, at-most}
+use Rattle.word.specs.Answers.Laws.{Checked, refusal-most, checked, decode-refused, decode-found, decode-lost}
 use Rattle.word.proofs.decode.Statement.{statement}
 use Rattle.word.proofs.decode.Tie as tie
 

@@ -4,9 +4,9 @@ use mathlib.Core.Path.{_≡_, refl, sym, _∙_}
 use native.Mathlib.Omega.{arith}
 use borrow.Author.Needs.{needs}
 use borrow.Author.Tests.{not-true, not-false}
-use Rattle.code.specs.Setting.{limits, at-most, has-room}
-use Rattle.code.specs.Answers.Laws.{Checked, refusal-most, checked, part-setting, part-length, part-refused, part-found, part-lost}
-use Rattle.settle.specs.Settled.{message-front}
+use Rattle.word.specs.Setting.{limits, at-most, has-room}
+use Rattle.word.specs.Answers.Laws.{Checked, refusal-most, checked, part-setting, part-length, part-refused, part-found, part-lost}
+use Rattle.word.specs.Settled.{message-front}
 use Rattle.word.proofs.decode_part.Statement.{statement}
 use Rattle.word.proofs.decode_part.Tie as tie
 

@@ -5,8 +5,8 @@ use native.Mathlib.Omega.{arith}
 use borrow.Author.Needs.{needs}
 use borrow.Author.Tests.{not-true, not-false}
 use lib.ListN.{length}
-use Rattle.code.specs.Setting.{has-room, has-few, own-symbols}
-use Rattle.code.specs.Answers.Laws.{encode-setting, encode-length, encode-word, encode-symbol, encode-done}
+use Rattle.word.specs.Setting.{has-room, has-few, own-symbols}
+use Rattle.word.specs.Answers.Laws.{encode-setting, encode-length, encode-word, encode-symbol, encode-done}
 use Rattle.word.proofs.Encoding.{encoded-front}
 use Rattle.word.proofs.encode.Statement.{statement}
 use Rattle.word.proofs.encode.Tie as tie

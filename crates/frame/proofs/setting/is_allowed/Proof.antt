@@ -4,7 +4,7 @@ use mathlib.Core.Path.{sym, ap, _∙_}
 use native.Mathlib.Omega.{arith}
 use borrow.Author.Needs.{needs}
 use borrow.Author.Tests.{not-true, not-false}
-use Rattle.code.specs.Setting.{allowed}
+use Rattle.word.specs.Setting.{allowed}
 use Rattle.frame.specs.Frame.Limits.{frame-no, frame-yes, words-no, words-yes, area-small}
 use Rattle.frame.proofs.setting.is_allowed.Statement.{statement}
 use Rattle.frame.proofs.setting.is_allowed.Tie as tie

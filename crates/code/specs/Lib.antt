@@ -1,9 +1,0 @@
-pub mod Setting
-pub mod Word
-pub mod Codeword
-pub mod Search
-pub mod Code
-pub mod Answers
-pub mod Means
-pub mod Distance
-pub mod Completion

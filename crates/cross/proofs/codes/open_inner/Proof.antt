@@ -1,0 +1,71 @@
+-- `codes::open_inner` meets its contract: it is what `decode_part` promises of a part that holds the first 28 bytes of the word.
+-- Assumes nothing.
+use mathlib.Core.Path.{_≡_, ap, _∙_}
+use native.Mathlib.Omega.{arith}
+use borrow.Author.Needs.{needs}
+use lib.ListN.{length, take, length-take}
+use lib.Seq.{take-all, length-take-le}
+use Rattle.rings.specs.Refusal.{ifZero}
+use Rattle.word.specs.Answers.{Outcome, outcome}
+use Rattle.cross.specs.Cross.{opened}
+use Rattle.cross.proofs.codes.open_inner.Statement.{statement}
+use Rattle.cross.proofs.codes.open_inner.Tie as tie
+
+sub-copy : tie.Need-sub-copy
+sub-copy c = search needs
+
+part-copy-start : tie.Need-part-copy-start
+part-copy-start c = search needs
+
+part-copy-end : tie.Need-part-copy-end
+part-copy-end c = omega (arith, c .before .before .pre .0)
+
+copy-requires : tie.Need-copy-requires
+copy-requires c κs =
+    let word = c .before .before .before .before .args .word .now in
+    let front : length (take 28 word) ≡ 28 = length-take-le 28 word (omega (arith, c .before .before .before .before .pre .0)) in
+    omega (arith, front, c .before .before .before .before .pre .1)
+
+no-marks-requires : tie.Need-no-marks-requires
+no-marks-requires c κs = search needs
+
+inner-code-requires : tie.Need-inner-code-requires
+inner-code-requires c κs = search needs
+
+slice-aggregate-decode-part : tie.Need-slice-aggregate-decode-part
+slice-aggregate-decode-part c = search needs
+
+decode-part-requires : tie.Need-decode-part-requires
+decode-part-requires c κs = search needs
+
+mark-of-requires : tie.Need-mark-of-requires
+mark-of-requires c κs = search needs
+
+same-length : tie.Need-same-length
+same-length c = search needs
+
+returns : tie.Need-returns
+unfolding opened
+returns c =
+    let word = c .before .before .before .before .before .before .before .before .before .before .before .before .before .before .before .args .word .now in
+    let d = c .before .before .before .decode-part in
+    let front = rw (c .before .before .before .before .before .before .before .before .before .before .before .before .before .before .before .pre .1) at (c .before .before .before .before .before .before .before .before .before .before .copy .ensures) in
+    let whole : take 28 (take 28 word) ≡ take 28 word = take-all 28 (take 28 word) (omega (arith, length-take 28 word)) in
+    let e : outcome (d .result) (d .last .1 .1 .1 .0) ≡ opened word = rw (c .before .before .before .before .before .before .inner-code .ensures, c .before .before .before .before .before .before .before .no-marks .ensures, front, whole) at (d .ensures) in
+    (c .mark-of .ensures ∙ ap (λ (o : Outcome). ifZero (o .number) 0 1) e, ap (λ (o : Outcome). o .word) e)
+
+pub open-inner-spec : {M : Type 1} → statement M
+open-inner-spec =
+    tie.close
+    (tie.spec
+    sub-copy
+    part-copy-start
+    part-copy-end
+    copy-requires
+    no-marks-requires
+    inner-code-requires
+    slice-aggregate-decode-part
+    decode-part-requires
+    mark-of-requires
+    same-length
+    returns)

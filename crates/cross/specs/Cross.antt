@@ -1,0 +1,112 @@
+-- The cross line (document 01, Cross line): its two codes, its delays, its positions, and what becomes of a frame, both ways.
+-- Assumes nothing.
+use mathlib.Core.Bool.{Bool, true, false}
+use mathlib.Core.List.{List}
+use Prim.Native.Nat.{ℕ, zero, suc, _+_, _-_}
+use native.Mathlib.Decide.{ℕ-discrete, decLt}
+use lib.ListN.{length, replicate, take}
+use Rattle.algebra.specs.Sets.{put}
+use Rattle.algebra.specs.Tests.{at}
+use Rattle.algebra.specs.Lists.{tabulate}
+use Rattle.rings.specs.Refusal.{need, first, ifZero}
+use Rattle.rings.specs.Rings.{ringOut, ringKept}
+use Rattle.rings.specs.Marks.{marks?}
+use Rattle.word.specs.Answers.{Outcome, refused, encodes, decodedPart}
+use Rattle.word.specs.declared.Setting.{Setting}
+use Rattle.cross.specs.declared.codes.Found.{Found}
+use Rattle.cross.specs.declared.position.Received.{Received}
+
+-- ---- the two codes: symbols are bytes, r = 4, b = 0
+
+-- 24 bytes become an outer word of 28, check bytes last, ..
+abbrev pub outerCode : Setting
+outerCode = record { m = 8; n = 28; r = 4; b = 0 }
+
+-- .. and 28 bytes an inner word of 32
+abbrev pub innerCode : Setting
+innerCode = record { m = 8; n = 32; r = 4; b = 0 }
+
+-- the words that the promise of `encode` gives; the inner one is written over a lent word
+unfoldable pub outerWord : List ℕ → List ℕ
+outerWord message = encodes outerCode message (replicate 28 0) .word
+
+unfoldable pub innerWord : List ℕ → List ℕ → List ℕ
+innerWord bytes lent = encodes innerCode bytes lent .word
+
+-- ---- the delays: a unit is 4 frames, and byte i has the ring of i units in the sender, in the receiver that of 27 - i
+
+abbrev pub unitsOf : Bool → ℕ → ℕ
+unitsOf false i = i
+unitsOf true i = 27 - i
+
+-- the memory once the rings of bytes 0 to i - 1 have turned at position q: each byte has gone into its ring
+unfoldable pub turned : (ℕ → ℕ) → ℕ → List ℕ → List ℕ → ℕ → List ℕ
+turned units q m bytes zero = m
+turned units q m bytes (suc i) = ringKept 4 (units i) q (turned units q m bytes i) (at bytes i)
+
+-- the 28 bytes that are due: what came out of each ring, or byte i itself where its ring has no units
+unfoldable pub due : (ℕ → ℕ) → ℕ → List ℕ → List ℕ → List ℕ
+due units q m bytes = tabulate 28 λ i. ringOut 4 (units i) q (turned units q m bytes i) (at bytes i)
+
+-- and the memory after the frame
+abbrev pub stored : (ℕ → ℕ) → ℕ → List ℕ → List ℕ → List ℕ
+stored units q m bytes = turned units q m bytes 28
+
+-- ---- the position: a sender's starts again at 0, a receiver's runs through 0 to 107 once, so that it says also whether a message is due
+
+-- after so many frames every ring is where it was: 4 times the least number that each of 1 to 27 divides
+abbrev pub cycle : ℕ
+cycle = 321253732800
+
+-- the position after p: `once` positions come once only, and after the last of all comes the first of the others
+unfoldable pub after : ℕ → ℕ → ℕ
+after once p = put (ℕ-discrete (p + 1) (once + cycle)) once (p + 1)
+
+-- ---- the inner word at the receiver: decoded with no marks into its own first 28 bytes, which stay as received where it is refused
+
+unfoldable pub opened : List ℕ → Outcome
+opened word = decodedPart innerCode (replicate 32 0) word (take 28 word)
+
+-- the bytes that go on, and the mark of each: 1 where the word is refused
+abbrev pub passedOn : List ℕ → List ℕ
+passedOn word = opened word .word
+
+abbrev pub markOf : List ℕ → ℕ
+markOf word = ifZero (opened word .number) 0 1
+
+abbrev pub marksOf : List ℕ → List ℕ
+marksOf word = replicate 28 (markOf word)
+
+-- ---- the outer word at the receiver: its message and figures, or 4 and zeros
+
+abbrev pub orZeros : Outcome → Outcome
+orZeros o = ifZero (o .number) o (refused 4 (replicate 24 0))
+
+unfoldable pub closed : List ℕ → List ℕ → List ℕ → Outcome
+closed marks bytes message = orZeros (decodedPart outerCode marks bytes message)
+
+-- what a frame that is taken is answered: 7 for the first 108, whatever their words are
+unfoldable pub settled : ℕ → List ℕ → List ℕ → List ℕ → List ℕ → Outcome
+settled p m ms word message =
+    put (decLt p 108) (refused 7 message) (closed (due (unitsOf true) p ms (marksOf word)) (due (unitsOf true) p m (passedOn word)) message)
+
+-- an answer of the code in this paper's terms, with the message bytes it leaves
+abbrev pub found : Found → List ℕ → Outcome
+found r message = record { number = r .answer; figures = r .figures; word = message }
+
+abbrev pub received : Received → List ℕ → Outcome
+received r message = record { number = r .answer; figures = r .figures; word = message }
+
+-- ---- the refusals, in the paper's order: the position 1, each length 2, a mark above 1 in the memory of marks 3
+
+unfoldable pub sendRefusal : ℕ → ℕ → ℕ → ℕ → ℕ
+sendRefusal p memory message word =
+    need (decLt p cycle) 1 (need (ℕ-discrete memory 1512) 2 (need (ℕ-discrete message 24) 2 (need (ℕ-discrete word 32) 2 0)))
+
+unfoldable pub freshRefusal : ℕ → ℕ → ℕ
+freshRefusal memory held = need (ℕ-discrete memory 1512) 2 (need (ℕ-discrete held 1512) 2 0)
+
+unfoldable pub receiveRefusal : ℕ → ℕ → List ℕ → ℕ → ℕ → ℕ
+receiveRefusal p memory held word message =
+    need (decLt p (108 + cycle)) 1
+    (first (freshRefusal memory (length held)) (need (ℕ-discrete word 32) 2 (need (ℕ-discrete message 24) 2 (need (marks? held) 3 0))))

@@ -1,0 +1,136 @@
+-- `receive_words` meets its contract. The loop's invariant: w words are accepted, their messages stand in the area one after the
+-- other, and the rest of the area is as it was.
+-- Assumes nothing.
+use mathlib.Core.Path.{_≡_, _∙_}
+use Prim.Native.Nat.{ℕ, _+_, _-_, _*_}
+use native.Mathlib.Omega.{arith}
+use borrow.Author.Needs.{needs}
+use borrow.Author.Tests.{not-true, not-false}
+use lib.ListN.{length, take, drop, length-take, length-drop}
+use Rattle.frame.specs.Decoding.{Collecting, collecting-none, same, fits, put-size, collecting-more, collected-lost, collected-all}
+use Rattle.frame.specs.Frame.Limits.{area-few}
+use Rattle.frame.proofs.receiver.receive_words.Statement.{statement}
+use Rattle.frame.proofs.receiver.receive_words.Tie as tie
+
+abbrev Inv-loop : tie.InvT-loop
+Inv-loop f slots marks area₀ k figures₀ w₀ w-end area figures w = Collecting f marks slots area₀ w area figures
+
+abbrev μ-loop : tie.MeasureT-loop
+μ-loop f slots marks area₀ k figures₀ w₀ w-end area figures w = f .depth - w
+
+sub-k : tie.Need-sub-k Inv-loop μ-loop
+sub-k c = omega (arith, c .before .before .before .before .pre .limits .words .room)
+
+no-figures-requires : tie.Need-no-figures-requires Inv-loop μ-loop
+no-figures-requires c κs = search needs
+
+loop-holds : tie.Need-loop-holds Inv-loop μ-loop
+loop-holds c = rw (c .no-figures .ensures) (collecting-none _ _ _ _ (c .before .before .before .before .before .pre .area-size))
+
+mul-a : tie.Need-mul-a Inv-loop μ-loop
+mul-a c =
+    let given = c .before .before .before .before .before .before .before .pre in
+    let inv = c .before .loop .inv in
+    let room = fits _ _ _ _ _ _ _ inv (c .loop-test .taken) in
+    let size = same _ _ _ _ _ _ _ inv in
+    omega (arith, area-few _ (given .limits), given .area-size)
+
+add-receive-word : tie.Need-add-receive-word Inv-loop μ-loop
+add-receive-word c =
+    let given = c .before .before .before .before .before .before .before .pre in
+    let inv = c .before .loop .inv in
+    let room = fits _ _ _ _ _ _ _ inv (c .loop-test .taken) in
+    let size = same _ _ _ _ _ _ _ inv in
+    omega (arith, area-few _ (given .limits), given .area-size)
+
+sub-receive-word : tie.Need-sub-receive-word Inv-loop μ-loop
+sub-receive-word c = search needs
+
+part-receive-word-start : tie.Need-part-receive-word-start Inv-loop μ-loop
+part-receive-word-start c = search needs
+
+part-receive-word-end : tie.Need-part-receive-word-end Inv-loop μ-loop
+part-receive-word-end c = fits _ _ _ _ _ _ _ (c .before .loop .inv) (c .loop-test .taken)
+
+receive-word-requires : tie.Need-receive-word-requires Inv-loop μ-loop
+receive-word-requires c κs =
+    let given = c .before .before .before .before .before .before .before .before .pre in
+    let room = fits _ _ _ _ _ _ _ (c .before .before .loop .inv) (c .before .loop-test .taken) in
+    record {
+      limits = given .limits;
+      turn = c .before .loop-test .taken;
+      slots-size = given .slots-size;
+      marks-size = given .marks-size;
+      marks-small = given .marks-small;
+      part-size = simp (length-take, length-drop) (omega arith);
+    }
+
+same-length : tie.Need-same-length Inv-loop μ-loop
+same-length c =
+    let f = c .before .before .before .before .before .before .before .before .before .before .before .before .before .args .f in
+    let loop = c .before .before .before .before .before .before .before .loop in
+    let taken = c .before .before .before .before .before .before .loop-test .taken in
+    let a : ℕ = loop .w * (f .n - f .r) in
+    let room = fits _ _ _ _ _ _ _ (loop .inv) taken in
+    let back = c .before .before .before .before .receive-word in
+    let kept : length (back .last .1 .1 .1 .1 .0) ≡ length (take (a + (f .n - f .r) - a) (drop a (loop .area))) = search needs in
+    let size : length (back .last .1 .1 .1 .1 .0) ≡ f .n - f .r = kept ∙ simp (length-take, length-drop) (omega arith) in
+    put-size _ _ _ _ _ _ _ (loop .inv) taken (back .last .1 .1 .1 .1 .0) size
+
+returns : tie.Need-returns Inv-loop μ-loop
+returns c = collected-lost _ _ _ _ _ _ _ (c .before .before .before .before .before .before .before .loop .inv) (c .before .before .before .before .before .before .loop-test .taken) _ _ _ (not-true _ (c .if1 .taken)) (c .before .before .before .before .receive-word .ensures)
+
+mul-figures : tie.Need-mul-figures Inv-loop μ-loop
+mul-figures c = omega (arith, c .before .before .before .before .before .before .before .before .before .before .before .before .before .before .pre .limits .few)
+
+array-set-from-figures : tie.Need-array-set-from-figures Inv-loop μ-loop
+array-set-from-figures c = omega (arith, c .before .before .before .before .before .before .before .before .before .before .before .before .before .before .pre .limits .few)
+
+add-w : tie.Need-add-w Inv-loop μ-loop
+add-w c = omega (arith, c .before .before .before .before .before .before .before .before .before .before .before .before .before .before .pre .limits .few)
+
+loop-less : tie.Need-loop-less Inv-loop μ-loop
+loop-less c = omega arith
+
+loop-again : tie.Need-loop-again Inv-loop μ-loop
+loop-again c =
+    let f = c .before .before .before .before .before .before .before .before .before .before .before .before .before .before .args .f in
+    let loop = c .before .before .before .before .before .before .before .before .loop in
+    let taken = c .before .before .before .before .before .before .before .loop-test .taken in
+    let a : ℕ = loop .w * (f .n - f .r) in
+    let room = fits _ _ _ _ _ _ _ (loop .inv) taken in
+    let back = c .before .before .before .before .before .receive-word in
+    let kept : length (back .last .1 .1 .1 .1 .0) ≡ length (take (a + (f .n - f .r) - a) (drop a (loop .area))) = search needs in
+    let size : length (back .last .1 .1 .1 .1 .0) ≡ f .n - f .r = kept ∙ simp (length-take, length-drop) (omega arith) in
+    collecting-more _ _ _ _ _ _ _ (loop .inv) (c .before .before .before .before .before .before .before .before .before .before .before .before .before .before .pre .limits .few) taken _ (back .last .1 .1 .1 .1 .0) size (not-false _ (c .before .if1 .left)) (back .ensures)
+
+same-length-2 : tie.Need-same-length-2 Inv-loop μ-loop
+same-length-2 c = same _ _ _ _ _ _ _ (c .before .loop .inv)
+
+returns-2 : tie.Need-returns-2 Inv-loop μ-loop
+returns-2 c = collected-all _ _ _ _ _ _ _ (c .before .loop .inv) (omega arith) (c .before .before .before .before .before .before .before .pre .limits .few)
+
+pub receive-words-spec : {M : Type 1} → statement M
+receive-words-spec =
+    tie.close
+    (tie.spec
+    Inv-loop
+    μ-loop
+    sub-k
+    no-figures-requires
+    loop-holds
+    mul-a
+    add-receive-word
+    sub-receive-word
+    part-receive-word-start
+    part-receive-word-end
+    receive-word-requires
+    same-length
+    returns
+    mul-figures
+    array-set-from-figures
+    add-w
+    loop-less
+    loop-again
+    same-length-2
+    returns-2)

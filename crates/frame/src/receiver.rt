@@ -1,0 +1,148 @@
+// Receiving a frame: document 01, section Block interleaver and frame. Its words are decoded into a lent message area, which then holds the
+// payload. What receiving promises is `received` of frame/specs/Frame.antt.
+ghost use mathlib.Core.Path.{_≡_};
+ghost use Prim.Native.Nat.{_≤_};
+ghost use lib.ListN.{length};
+ghost use Rattle.frame.specs.Frame.{answered, refusedWith, settled, decodedFrame, received};
+ghost use Rattle.frame.specs.Decoding.{foundOf, Decodes, WordGiven, FrameChecked, Collected};
+use crate::setting::Framing;
+use crate::setting::Received;
+use crate::setting::Verdict;
+use crate::setting::is_allowed;
+use crate::setting::words_of;
+use crate::slots::take_word;
+use crate::trailer::is_good;
+use crate::trailer::two_at;
+use buffers::fill;
+use rings::marks_fit;
+use word::Decoded;
+use word::Figures;
+use word::numbers::figures_of;
+use word::numbers::no_figures;
+use word::numbers::number_of;
+
+// What one word was found to have; no figures where it is refused.
+pub struct Found {
+    pub accepted: bool,
+    pub figures: Figures,
+}
+
+// What the words were found to have: how many from the first on were accepted, and the figures of these.
+pub struct Words {
+    pub accepted: usize,
+    pub figures: [Figures; 16],
+}
+
+// A word's answer without its reason: a frame tells only which word failed.
+fn without_reason(d: Decoded) -> Found
+    ensures { λ r. ⌜ r ≡ foundOf d ⌝ }
+{
+    Found {
+        accepted: number_of(d) == 0,
+        figures: figures_of(d),
+    }
+}
+
+// Decodes word w into its part of the area.
+fn receive_word(f: Framing, w: usize, slots: &[u8], marks: &[u8], part: &mut [u8]) -> Found
+    requires { ⌜ WordGiven f w (now slots) (now marks) (length (now part)) ⌝ }
+    ensures { λ r. ⌜ Decodes f (now (marks .entry)) (now (slots .entry)) w r (now (part .exit)) ⌝ }
+{
+    let word = take_word(f.depth, f.n, w, slots);
+    let marked = take_word(f.depth, f.n, w, marks);
+    let d = word::decode_part(words_of(f), &word[..f.n], &marked[..f.n], part);
+    without_reason(d)
+}
+
+// Decodes each word into its part of the area, up to the first that is refused.
+fn receive_words(f: Framing, slots: &[u8], marks: &[u8], area: &mut [u8]) -> Words
+    requires { ⌜ FrameChecked f (now slots) (now marks) (length (now area)) ⌝ }
+    ensures { λ r. ⌜ Collected f (now (marks .entry)) (now (slots .entry)) r (now (area .exit)) ⌝ }
+{
+    let k = f.n - f.r;
+    let mut figures = [no_figures(); 16];
+    for w in 0..f.depth {
+        let a = w * k;
+        let found = receive_word(f, w, slots, marks, &mut area[a..a + k]);
+        if !found.accepted {
+            return Words {
+                accepted: w,
+                figures,
+            };
+        }
+        let own = found.figures;
+        figures[w] = own;
+    }
+    Words {
+        accepted: f.depth,
+        figures,
+    }
+}
+
+// The answer of a refused frame.
+fn refused(verdict: Verdict) -> Received
+    ensures { λ r. ⌜ r ≡ refusedWith verdict ⌝ }
+{
+    let figures = [no_figures(); 16];
+    Received {
+        verdict,
+        sequence: 0,
+        back: 0,
+        figures,
+    }
+}
+
+// The answer of a frame whose words are all accepted: what its trailer says.
+fn settle(area: &mut [u8], figures: [Figures; 16]) -> Received
+    requires { ⌜ 4 ≤ length (now area) ⌝ }
+    ensures { λ r. ⌜ answered r (now (area .exit)) ≡ settled (length (now (area .entry))) figures (now (area .entry)) ⌝ }
+{
+    if !is_good(area) {
+        fill(area, 0);
+        return refused(Verdict::BadTrailer);
+    }
+    let end = area.len() - 4;
+    Received {
+        verdict: Verdict::Done,
+        sequence: two_at(area, end + 2),
+        back: two_at(area, end),
+        figures,
+    }
+}
+
+// Decodes a frame that has passed the checks.
+fn receive_checked(f: Framing, slots: &[u8], marks: &[u8], area: &mut [u8]) -> Received
+    requires { ⌜ FrameChecked f (now slots) (now marks) (length (now area)) ⌝ }
+    ensures { λ r. ⌜ answered r (now (area .exit)) ≡ decodedFrame f (now (marks .entry)) (now (slots .entry)) ⌝ }
+{
+    let words = receive_words(f, slots, marks, area);
+    if words.accepted < f.depth {
+        fill(area, 0);
+        return refused(Verdict::BeyondReach(words.accepted as u8));
+    }
+    let figures = words.figures;
+    settle(area, figures)
+}
+
+// Decodes a received frame into the lent area of A bytes; its slots and marks are only read. A frame that is beyond reach or has a bad
+// trailer leaves zeros in the area, and any other refusal leaves it as it was.
+pub fn receive(f: Framing, slots: &[u8], marks: &[u8], area: &mut [u8]) -> Received
+    ensures { λ r. ⌜ answered r (now (area .exit)) ≡ received f (now (marks .entry)) (now (slots .entry)) (now (area .entry)) ⌝ }
+{
+    if !is_allowed(f) {
+        return refused(Verdict::BadSetting);
+    }
+    if slots.len() != f.n * f.depth {
+        return refused(Verdict::BadLength);
+    }
+    if marks.len() != f.n * f.depth {
+        return refused(Verdict::BadLength);
+    }
+    if area.len() != f.depth * (f.n - f.r) {
+        return refused(Verdict::BadLength);
+    }
+    if !marks_fit(marks) {
+        return refused(Verdict::BadMark);
+    }
+    receive_checked(f, slots, marks, area)
+}

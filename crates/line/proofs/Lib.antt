@@ -1,2 +1,0 @@
--- Laws that more than one proof of this crate leans on.
-mod Bounds

@@ -1,5 +1,0 @@
-pub mod Line
-pub mod Setting
-pub mod Steps
-pub mod Promises
-pub mod Calls

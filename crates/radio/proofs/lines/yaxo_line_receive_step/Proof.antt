@@ -1,0 +1,27 @@
+-- `yaxo_line_receive_step` meets its contract: the answer shown is one that the line's own call promises, of the same line.
+-- Assumes nothing.
+use mathlib.Core.Path.{refl}
+use borrow.Author.Needs.{needs}
+use Rattle.radio.proofs.lines.yaxo_line_receive_step.Statement.{statement}
+use Rattle.radio.proofs.lines.yaxo_line_receive_step.Tie as tie
+
+line-of-requires : tie.Need-line-of-requires
+line-of-requires c κs = search needs
+
+receive-step-requires : tie.Need-receive-step-requires
+receive-step-requires c κs = search needs
+
+same-length : tie.Need-same-length
+same-length c = search needs
+
+same-length-2 : tie.Need-same-length-2
+same-length-2 c = search needs
+
+returns : tie.Need-returns
+returns c =
+    let inner = c .before .before .before .before .receive-step in
+    record { inner = inner .result; promised = rw (c .before .before .before .before .before .before .before .line-of .ensures) at (inner .ensures); same = refl }
+
+pub yaxo-line-receive-step-spec : {M : Type 1} → statement M
+yaxo-line-receive-step-spec =
+    tie.close (tie.spec line-of-requires receive-step-requires same-length same-length-2 returns)

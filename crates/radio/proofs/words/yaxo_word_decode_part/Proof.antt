@@ -1,0 +1,27 @@
+-- `yaxo_word_decode_part` meets its contract: the answer shown is one that the call below promises, of the same setting.
+-- Assumes nothing.
+use borrow.Author.Needs.{needs}
+use Rattle.radio.proofs.words.yaxo_word_decode_part.Statement.{statement}
+use Rattle.radio.proofs.words.yaxo_word_decode_part.Tie as tie
+
+code-of-requires : tie.Need-code-of-requires
+code-of-requires c κs = search needs
+
+decode-part-requires : tie.Need-decode-part-requires
+decode-part-requires c κs = search needs
+
+word-answer-requires : tie.Need-word-answer-requires
+word-answer-requires c κs = search needs
+
+same-length : tie.Need-same-length
+same-length c = search needs
+
+returns : tie.Need-returns
+returns c =
+    let inner = c .before .before .before .decode-part in
+    record { inner = inner .result; promised = rw (c .before .before .before .before .before .code-of .ensures) at (inner .ensures); same = c .word-answer .ensures }
+
+pub yaxo-word-decode-part-spec : {M : Type 1} → statement M
+yaxo-word-decode-part-spec =
+    tie.close
+    (tie.spec code-of-requires decode-part-requires word-answer-requires same-length returns)

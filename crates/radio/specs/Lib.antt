@@ -1,0 +1,5 @@
+pub mod Words
+pub mod DelayLine
+pub mod Frames
+pub mod Records
+pub mod Receiver

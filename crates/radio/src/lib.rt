@@ -1,0 +1,9 @@
+// All calls for C: each hands its input to the call below it and shows the answer. The header for C is include/yaxopetzo.h. No call asks
+// anything of its caller but that a pointer and its length are those of a buffer, and that what is written overlaps nothing else.
+mod blocks;
+mod crosses;
+mod frames;
+mod hearing;
+mod lines;
+mod records;
+mod words;

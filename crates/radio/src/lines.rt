@@ -1,0 +1,160 @@
+// The delay line for C. A line's setting is the caller's and does not change, so only the position goes back.
+ghost use mathlib.Core.Path.{_≡_};
+ghost use Rattle.interleave.specs.Promises.{FreshSender, FreshReceiver, SendStep, SendRun, ReceiveStep, ReceiveRun};
+ghost use Rattle.word.specs.Shown.{Shows};
+ghost use Rattle.radio.specs.DelayLine.{lineOf, readySeen, sentSeen, receivedSeen};
+use interleave::Line;
+use interleave::Ready;
+use interleave::fresh_receiver;
+use interleave::fresh_sender;
+use interleave::receive_run;
+use interleave::receive_step;
+use interleave::send_run;
+use interleave::send_step;
+
+// A delay line as C sets it.
+#[repr(C)]
+pub struct LineSetting {
+    pub branches: u32,
+    pub unit: u32,
+    pub n: u32,
+}
+
+// The number a call answers, and the position for the next call.
+#[repr(C)]
+pub struct LineReady {
+    pub answer: u8,
+    pub position: usize,
+}
+
+// The same with the byte that leaves the sender.
+#[repr(C)]
+pub struct LineSent {
+    pub answer: u8,
+    pub byte: u8,
+    pub position: usize,
+}
+
+// The same with the byte that leaves the receiver, and its mark.
+#[repr(C)]
+pub struct LineReceived {
+    pub answer: u8,
+    pub byte: u8,
+    pub mark: u8,
+    pub position: usize,
+}
+
+// The line below, at a position.
+fn line_of(line: LineSetting, position: usize) -> Line
+    ensures { λ r. ⌜ r ≡ lineOf line position ⌝ }
+{
+    Line {
+        branches: line.branches as usize,
+        unit: line.unit as usize,
+        n: line.n as usize,
+        position,
+    }
+}
+
+// An answer as C sees it.
+fn line_ready(ready: Ready) -> LineReady
+    ensures { λ r. ⌜ r ≡ readySeen ready ⌝ }
+{
+    LineReady {
+        answer: ready.answer,
+        position: ready.line.position,
+    }
+}
+
+// A sender that has sent nothing. Answers 0, 1 or 2; refused, the memory stays as it was.
+#[no_mangle]
+pub extern "C" fn yaxo_line_fresh_sender(line: LineSetting, memory: &mut [u8]) -> LineReady
+    ensures { λ r. ⌜ Shows readySeen (λ t. FreshSender (line .branches) (line .unit) (line .n) (now (memory .entry)) t (now (memory .exit))) r ⌝ }
+{
+    let s = line_of(line, 0);
+    let t = fresh_sender(s.branches, s.unit, s.n, memory);
+    line_ready(t)
+}
+
+// A receiver that has received nothing. Answers 0, 1 or 2; refused, both memories stay as they were.
+#[no_mangle]
+pub extern "C" fn yaxo_line_fresh_receiver(
+    line: LineSetting,
+    memory: &mut [u8],
+    held: &mut [u8],
+) -> LineReady
+    ensures { λ r. ⌜ Shows readySeen (λ t. FreshReceiver (line .branches) (line .unit) (line .n) (now (memory .entry)) (now (held .entry)) t (now (memory .exit)) (now (held .exit))) r ⌝ }
+{
+    let s = line_of(line, 0);
+    let t = fresh_receiver(s.branches, s.unit, s.n, memory, held);
+    line_ready(t)
+}
+
+// One step of a sender. Answers 0, 1 or 2; refused, the memory stays as it was.
+#[no_mangle]
+pub extern "C" fn yaxo_line_send_step(
+    line: LineSetting,
+    position: usize,
+    memory: &mut [u8],
+    byte: u8,
+) -> LineSent
+    ensures { λ r. ⌜ Shows sentSeen (λ t. SendStep (lineOf line position) (now (memory .entry)) byte t (now (memory .exit))) r ⌝ }
+{
+    let t = send_step(line_of(line, position), memory, byte);
+    LineSent {
+        answer: t.answer,
+        byte: t.byte,
+        position: t.line.position,
+    }
+}
+
+// A step for each of the bytes, in place. Answers as a step does; refused, memory and bytes stay as they were.
+#[no_mangle]
+pub extern "C" fn yaxo_line_send_run(
+    line: LineSetting,
+    position: usize,
+    memory: &mut [u8],
+    bytes: &mut [u8],
+) -> LineReady
+    ensures { λ r. ⌜ Shows readySeen (λ t. SendRun (lineOf line position) (now (memory .entry)) (now (bytes .entry)) t (now (memory .exit)) (now (bytes .exit))) r ⌝ }
+{
+    let t = send_run(line_of(line, position), memory, bytes);
+    line_ready(t)
+}
+
+// One step of a receiver. Answers 0, 1, 2 or 3; refused, both memories stay as they were.
+#[no_mangle]
+pub extern "C" fn yaxo_line_receive_step(
+    line: LineSetting,
+    position: usize,
+    memory: &mut [u8],
+    held: &mut [u8],
+    byte: u8,
+    mark: u8,
+) -> LineReceived
+    ensures { λ r. ⌜ Shows receivedSeen (λ t. ReceiveStep (lineOf line position) (now (memory .entry)) (now (held .entry)) byte mark t (now (memory .exit)) (now (held .exit))) r ⌝ }
+{
+    let t = receive_step(line_of(line, position), memory, held, byte, mark);
+    LineReceived {
+        answer: t.answer,
+        byte: t.byte,
+        mark: t.mark,
+        position: t.line.position,
+    }
+}
+
+// A step for each of the bytes with its mark, in place. Answers as a step does; refused, all that was lent stays as it was.
+#[no_mangle]
+pub extern "C" fn yaxo_line_receive_run(
+    line: LineSetting,
+    position: usize,
+    memory: &mut [u8],
+    held: &mut [u8],
+    bytes: &mut [u8],
+    marks: &mut [u8],
+) -> LineReady
+    ensures { λ r. ⌜ Shows readySeen (λ t. ReceiveRun (lineOf line position) (now (memory .entry)) (now (held .entry)) (now (bytes .entry)) (now (marks .entry)) t (now (memory .exit)) (now (held .exit)) (now (bytes .exit)) (now (marks .exit))) r ⌝ }
+{
+    let t = receive_run(line_of(line, position), memory, held, bytes, marks);
+    line_ready(t)
+}

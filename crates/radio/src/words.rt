@@ -1,0 +1,94 @@
+// The word code for C: its setting, what decoding answers, and the calls. Each call hands its input to the call below it and shows the answer.
+// The header for C is include/yaxopetzo.h. No call asks anything of its caller but that a pointer and its length are those of a buffer.
+ghost use mathlib.Core.Path.{_≡_};
+ghost use Rattle.word.specs.Setting.{allowed};
+ghost use Rattle.word.specs.Answers.{outcome, encodeOutcome, encodedNumber, encodes, decoded, decodedPart};
+ghost use Rattle.word.specs.Shown.{Shows};
+ghost use Rattle.radio.specs.Words.{codeOf, decodedSeen};
+use word::Decoded;
+use word::Figures;
+use word::Setting;
+use word::decode;
+use word::decode_part;
+use word::encode;
+use word::is_allowed;
+use word::numbers::encoded_number;
+use word::numbers::figures_of;
+use word::numbers::number_of;
+
+// A word code as C sets it. 32 bits hold every number that C is likely to hand in by mistake, -1 too, so that it is refused.
+#[repr(C)]
+pub struct CodeSetting {
+    pub m: u32,
+    pub n: u32,
+    pub r: u32,
+    pub b: u32,
+}
+
+// What decoding answers: the paper's number, and the figures of an accepted word.
+#[repr(C)]
+pub struct WordAnswer {
+    pub answer: u8,
+    pub figures: Figures,
+}
+
+// The setting below.
+fn code_of(code: CodeSetting) -> Setting
+    ensures { λ r. ⌜ r ≡ codeOf code ⌝ }
+{
+    Setting {
+        m: code.m as usize,
+        n: code.n as usize,
+        r: code.r as usize,
+        b: code.b as usize,
+    }
+}
+
+// A decoder's answer as C sees it.
+fn word_answer(d: Decoded) -> WordAnswer
+    ensures { λ r. ⌜ r ≡ decodedSeen d ⌝ }
+{
+    let answer = number_of(d);
+    let figures = figures_of(d);
+    WordAnswer { answer, figures }
+}
+
+// Whether a code keeps the limits.
+#[no_mangle]
+pub extern "C" fn yaxo_word_is_allowed(code: CodeSetting) -> bool
+    ensures { λ r. ⌜ r ≡ allowed (codeOf code) ⌝ }
+{
+    is_allowed(code_of(code))
+}
+
+// Encodes k message symbols to a word of n. Answers 0, 1, 2 or 3; refused, the word stays as it was.
+#[no_mangle]
+pub extern "C" fn yaxo_word_encode(code: CodeSetting, message: &[u8], word: &mut [u8]) -> u8
+    ensures { λ r. ⌜ Shows encodedNumber (λ d. encodeOutcome d (now (word .exit)) ≡ encodes (codeOf code) (now (message .entry)) (now (word .entry))) r ⌝ }
+{
+    let d = encode(code_of(code), message, word);
+    encoded_number(d)
+}
+
+// Corrects a word where it stands. Answers 0 to 4; refused, the word stays as received.
+#[no_mangle]
+pub extern "C" fn yaxo_word_decode(code: CodeSetting, word: &mut [u8], marks: &[u8]) -> WordAnswer
+    ensures { λ r. ⌜ Shows decodedSeen (λ d. outcome d (now (word .exit)) ≡ decoded (codeOf code) (now (marks .entry)) (now (word .entry))) r ⌝ }
+{
+    let d = decode(code_of(code), word, marks);
+    word_answer(d)
+}
+
+// The same with the received word only read: its k message symbols go to the part. Refused, the part stays as it was.
+#[no_mangle]
+pub extern "C" fn yaxo_word_decode_part(
+    code: CodeSetting,
+    received: &[u8],
+    marks: &[u8],
+    part: &mut [u8],
+) -> WordAnswer
+    ensures { λ r. ⌜ Shows decodedSeen (λ d. outcome d (now (part .exit)) ≡ decodedPart (codeOf code) (now (marks .entry)) (now (received .entry)) (now (part .entry))) r ⌝ }
+{
+    let d = decode_part(code_of(code), received, marks, part);
+    word_answer(d)
+}

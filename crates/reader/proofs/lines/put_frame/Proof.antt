@@ -1,0 +1,44 @@
+-- `put_frame` meets its contract: the first line, the words' lines, the payload and the line's end.
+-- Assumes nothing.
+use borrow.Author.Needs.{needs}
+use Rattle.reader.specs.Lines.Laws.{put-accepted}
+use Rattle.reader.proofs.lines.put_frame.Statement.{statement}
+use Rattle.reader.proofs.lines.put_frame.Tie as tie
+
+wide-requires : tie.Need-wide-requires
+wide-requires c κs = search needs
+
+put-first-requires : tie.Need-put-first-requires
+put-first-requires c κs = search needs
+
+put-words-requires : tie.Need-put-words-requires
+put-words-requires c κs = search needs
+
+put-hexes-requires : tie.Need-put-hexes-requires
+put-hexes-requires c κs = search needs
+
+put-byte-requires : tie.Need-put-byte-requires
+put-byte-requires c κs = search needs
+
+same-length : tie.Need-same-length
+same-length c = search needs
+
+returns : tie.Need-returns
+returns c =
+    put-accepted _ _ _ _
+    (rw (c .before .before .before .before .before .before .before .before .before .before .before .before .before .before .before .before .wide .ensures) at (c .before .before .before .before .before .before .before .before .before .before .before .before .before .before .put-first .ensures .0))
+    (c .before .before .before .before .before .before .before .before .before .before .put-words .ensures .0)
+    (c .before .before .before .before .before .before .put-hexes .ensures .0)
+    (c .before .before .put-byte .ensures)
+
+pub put-frame-spec : {M : Type 1} → statement M
+put-frame-spec =
+    tie.close
+    (tie.spec
+    wide-requires
+    put-first-requires
+    put-words-requires
+    put-hexes-requires
+    put-byte-requires
+    same-length
+    returns)

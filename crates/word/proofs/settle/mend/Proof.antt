@@ -1,0 +1,102 @@
+-- `settle::mend` meets its contract: each return is one law of `Settles`, from what the steps before it promise.
+-- Assumes nothing.
+use mathlib.Core.Path.{sym, ap, _∙_}
+use native.Mathlib.Omega.{arith}
+use borrow.Author.Needs.{needs}
+use borrow.Author.Tests.{not-true, not-false}
+use lib.ListN.{length}
+use Rattle.word.specs.Setting.{limits, at-most}
+use Rattle.word.specs.Settled.{lost-left, lost-far, found-mended}
+use Rattle.word.proofs.settle.mend.Statement.{statement}
+use Rattle.word.proofs.settle.mend.Tie as tie
+
+repair-requires : tie.Need-repair-requires
+repair-requires c κs =
+    let start = c .before .before .before .before in
+    let k = start .pre .0 .checked in
+    (at-most _ (limits _ (k .setting)), limits _ (k .setting) .high, limits _ (k .setting) .start, start .pre .0 .few, k .marks-size, ap length (start .pre .1) ∙ k .size)
+
+all-zero-requires : tie.Need-all-zero-requires
+all-zero-requires c κs = limits _ (c .before .before .before .before .before .before .before .pre .0 .checked .setting) .high
+
+lost-requires : tie.Need-lost-requires
+lost-requires c κs = search needs
+
+same-length : tie.Need-same-length
+same-length c = search needs
+
+returns : tie.Need-returns
+returns c =
+    let start = c .before .before .before .before .before .before .before .before .before .before in
+    let k = start .pre .0 in
+    lost-left _ _ _ (k .checked) _ (k .counted) (k .few) _ (k .syndromes) _ _ (rw (start .pre .1) at (c .before .before .before .before .before .repair .ensures)) _
+    (sym (c .before .before .all-zero .ensures) ∙ not-true _ (c .before .if1 .taken)) (c .lost .ensures)
+
+count-errors-requires : tie.Need-count-errors-requires
+count-errors-requires c κs =
+    let k = c .before .before .before .before .before .before .before .before .before .before .pre .0 .checked in
+    (omega (arith, k .size, at-most _ (limits _ (k .setting))), k .marks-size ∙ sym (k .size), c .before .before .before .before .before .repair .ensures .are-corrected .size ∙ sym (k .size))
+
+mul-if2 : tie.Need-mul-if2
+mul-if2 c =
+    let k = c .before .before .before .before .before .before .before .before .before .before .before .pre .0 .checked in
+    omega (arith, c .count-errors .ensures .1, k .size, at-most _ (limits _ (k .setting)))
+
+add-if2 : tie.Need-add-if2
+add-if2 c =
+    let k = c .before .before .before .before .before .before .before .before .before .before .before .pre .0 in
+    omega (arith, c .count-errors .ensures .1, k .few, k .checked .size, limits _ (k .checked .setting) .high, at-most _ (limits _ (k .checked .setting)))
+
+lost-requires-2 : tie.Need-lost-requires-2
+lost-requires-2 c κs = search needs
+
+same-length-2 : tie.Need-same-length-2
+same-length-2 c = search needs
+
+returns-2 : tie.Need-returns-2
+returns-2 c =
+    let start = c .before .before .before .before .before .before .before .before .before .before .before .before .before .before in
+    let k = start .pre .0 in
+    lost-far _ _ _ (k .checked) _ (k .counted) (k .few) _ (k .syndromes) _ _ (rw (start .pre .1) at (c .before .before .before .before .before .before .before .before .before .repair .ensures)) _ _
+    (c .before .before .before .count-errors .ensures .0) (c .before .if2 .taken) (c .lost2 .ensures)
+
+count-bits-requires : tie.Need-count-bits-requires
+count-bits-requires c κs =
+    let k = c .before .before .before .before .before .before .before .before .before .before .before .before .before .before .pre .0 .checked in
+    (omega (arith, k .size, at-most _ (limits _ (k .setting))), c .before .before .before .before .before .before .before .before .before .repair .ensures .are-corrected .size ∙ sym (k .size))
+
+found-requires : tie.Need-found-requires
+found-requires c κs =
+    let k = c .before .before .before .before .before .before .before .before .before .before .before .before .before .before .before .pre .0 in
+    let few = at-most _ (limits _ (k .checked .setting)) in
+    (omega (arith, c .before .before .before .before .count-errors .ensures .1, k .checked .size, few), omega (arith, k .few, limits _ (k .checked .setting) .high), omega (arith, c .count-bits .ensures .1, k .checked .size, few))
+
+same-length-3 : tie.Need-same-length-3
+same-length-3 c = search needs
+
+returns-3 : tie.Need-returns-3
+returns-3 c =
+    let start = c .before .before .before .before .before .before .before .before .before .before .before .before .before .before .before .before in
+    let k = start .pre .0 in
+    found-mended _ _ _ (k .checked) _ (k .counted) (k .few) _ (k .syndromes) _ _ (rw (start .pre .1) at (c .before .before .before .before .before .before .before .before .before .before .before .repair .ensures)) _ _
+    (c .before .before .before .before .before .count-errors .ensures .0) (omega arith) (sym (c .before .before .before .before .before .before .before .before .all-zero .ensures) ∙ not-false _ (c .before .before .before .before .before .before .before .if1 .left)) _ (c .before .count-bits .ensures .0) (c .found .ensures)
+
+pub mend-spec : {M : Type 1} → statement M
+mend-spec =
+    tie.close
+    (tie.spec
+    repair-requires
+    all-zero-requires
+    lost-requires
+    same-length
+    returns
+    count-errors-requires
+    mul-if2
+    add-if2
+    lost-requires-2
+    same-length-2
+    returns-2
+    count-bits-requires
+    found-requires
+    same-length-3
+    returns-3)

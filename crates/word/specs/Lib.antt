@@ -1,0 +1,13 @@
+pub mod Setting
+pub mod Figures
+pub mod Word
+pub mod Codeword
+pub mod Search
+pub mod Code
+pub mod Answers
+pub mod Means
+pub mod Distance
+pub mod Completion
+pub mod Solution
+pub mod Settled
+pub mod Shown
