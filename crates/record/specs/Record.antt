@@ -1,23 +1,17 @@
--- Document 01, "Receiver's record": how a sequence number stands to the last, and what a frame's answer does to the record.
+-- Document 01, "Receiver's record": how a frame stands to what the record has accepted, and what a frame's answer does to the record.
 -- Assumes nothing.
 use mathlib.Core.Bool.{true, false, _||_}
-use Prim.Native.Nat.{ℕ, _+_, _-_, _%_, min}
-use lib.Dec.{ltb, eqb}
+use Prim.Native.Nat.{ℕ, _+_, min}
+use lib.Dec.{eqb}
 use Rattle.algebra.specs.Tests.{if_then_else_}
+use Rattle.record.specs.Order.{compared}
+use Rattle.record.specs.declared.order.Order.{Order}
+use Rattle.record.specs.declared.order.Order.the-variants.{Same, Ahead, Behind}
 use Rattle.record.specs.declared.Record.{Record}
 use Rattle.record.specs.declared.Kind.{Kind}
 use Rattle.record.specs.declared.Kind.the-variants.{Newer, Repeat, Older}
 pub mod Laws
-pub mod Kinds
 pub mod History
-
--- the new number minus the last, wrapped at 65536
-abbrev pub ahead : ℕ → ℕ → ℕ
-ahead new last = (new + (65536 - last)) % 65536
-
--- with d that difference: d = 0 is repeat, 1 to 32767 newer, 32768 to 65535 older
-unfoldable pub kind : ℕ → ℕ → Kind
-kind new last = if eqb (ahead new last) 0 then Repeat else if ltb (ahead new last) 32768 then Newer else Older
 
 -- one more; a count at 4294967295 stays there
 abbrev pub oneMore : ℕ → ℕ
@@ -37,9 +31,15 @@ countedAs h new Older = record { accepted = true; last = h .last; newer = h .new
 abbrev pub lostAfter : Record → Record
 lostAfter h = record { accepted = h .accepted; last = h .last; newer = h .newer; repeat = h .repeat; older = h .older; refused = oneMore (h .refused) }
 
+-- ahead is newer, the same number again is repeat, and behind is older
+abbrev pub kindOf : Order → Kind
+kindOf Same = Repeat
+kindOf Ahead = Newer
+kindOf Behind = Older
+
 -- the first accepted frame is newer, whatever the last number says
 unfoldable pub standing : Record → ℕ → Kind
-standing h new = if h .accepted then kind new (h .last) else Newer
+standing h new = if h .accepted then kindOf (compared new (h .last)) else Newer
 
 -- after a frame that was answered `number`, with sequence number `new`; refusals 1, 2 and 3 leave the record alone
 unfoldable pub noted : Record → ℕ → ℕ → Record

@@ -1,7 +1,13 @@
 // The receiver's record: document 01, section Receiver's record. It holds the newest sequence number, and how many frames were
-// newer, repeated, older and refused. What each call promises is defined in specs/Record.antt.
+// newer, repeated, older and refused. What each call promises is defined in specs/Record.antt and specs/Promises.antt.
 ghost use mathlib.Core.Path.{_≡_};
-ghost use Rattle.record.specs.Record.{ahead, oneMore, kind, freshRecord, countedAs, lostAfter, standing, noted};
+ghost use Rattle.record.specs.Record.{oneMore, freshRecord, countedAs, lostAfter, kindOf, standing};
+ghost use Rattle.record.specs.Promises.{Notes};
+
+mod order;
+
+use order::Order;
+use order::compare;
 
 // A caller makes it by `fresh` and hands it to every call that receives. The C face lends it, so its fields keep their order.
 #[repr(C)]
@@ -35,25 +41,15 @@ pub fn fresh() -> Record
     }
 }
 
-// The new number minus the last, wrapped at 65536. A plain comparison would take 2 for older than 65535.
-fn ahead_of(new: u16, last: u16) -> u16
-    ensures { λ r. ⌜ r ≡ ahead new last ⌝ }
+// What an accepted frame is whose number stands so to the last newest one.
+fn kind_of(order: Order) -> Kind
+    ensures { λ r. ⌜ r ≡ kindOf order ⌝ }
 {
-    std::num::wrapping_sub_u16(new, last)
-}
-
-// Newer is ahead of the last number by 1 to 32767, repeat is the last number again, and older is the rest.
-fn kind_of(new: u16, last: u16) -> Kind
-    ensures { λ r. ⌜ r ≡ kind new last ⌝ }
-{
-    let d = ahead_of(new, last);
-    if d == 0 {
-        return Kind::Repeat;
+    match order {
+        Order::Same => Kind::Repeat,
+        Order::Ahead => Kind::Newer,
+        Order::Behind => Kind::Older,
     }
-    if d < 32768 {
-        return Kind::Newer;
-    }
-    Kind::Older
 }
 
 // How an accepted frame with this number stands to what the record has accepted. The first is newer, whatever the last number says.
@@ -61,7 +57,7 @@ pub fn standing_of(before: Record, sequence: u16) -> Kind
     ensures { λ r. ⌜ r ≡ standing before sequence ⌝ }
 {
     if before.accepted {
-        return kind_of(sequence, before.last);
+        return kind_of(compare(sequence, before.last));
     }
     Kind::Newer
 }
@@ -108,7 +104,7 @@ fn lost(before: Record) -> Record
 // The record after a frame that was answered `number`; its sequence number counts only where that is 0.
 // 4 and 5 add to the refused ones, and every other refusal leaves the record as it was.
 pub fn note(before: Record, number: u8, sequence: u16) -> Record
-    ensures { λ r. ⌜ r ≡ noted before number sequence ⌝ }
+    ensures { λ r. ⌜ Notes before number sequence r ⌝ }
 {
     if number == 4 {
         return lost(before);
@@ -124,7 +120,7 @@ pub fn note(before: Record, number: u8, sequence: u16) -> Record
 
 // The same over a lent record, which is updated where it stands.
 pub fn note_in(lent: &mut Record, number: u8, sequence: u16)
-    ensures { λ _. ⌜ now (lent .exit) ≡ noted (now (lent .entry)) number sequence ⌝ }
+    ensures { λ _. ⌜ Notes (now (lent .entry)) number sequence (now (lent .exit)) ⌝ }
 {
     *lent = note(*lent, number, sequence);
 }

@@ -19,7 +19,8 @@ use Rattle.interleave.specs.Block.{Spread}
 use Rattle.interleave.specs.Setting.{memorySize}
 use Rattle.interleave.specs.Promises.{FreshSender, SendRun, FreshReceiver, ReceiveRun}
 use Rattle.interleave.specs.declared.line.Ready.{Ready}
-use Rattle.record.specs.Record.{standing, noted, countedAs}
+use Rattle.record.specs.Record.{standing, countedAs}
+use Rattle.record.specs.Promises.{Notes}
 use Rattle.record.specs.declared.Record.{Record}
 use Rattle.record.specs.declared.Kind.{Kind}
 
@@ -62,4 +63,4 @@ Receives I M n bytes marks out flags =
 abbrev pub Judges : (last new : ℕ) → Kind → Type 0
 Judges last new kind =
     (h : Record) → h .accepted ≡ true → h .last ≡ last
-    → ((k : Kind) → k ≡ standing h new → k ≡ kind) × ((after : Record) → after ≡ noted h 0 new → after ≡ countedAs h new kind)
+    → ((k : Kind) → k ≡ standing h new → k ≡ kind) × ((after : Record) → Notes h 0 new after → after ≡ countedAs h new kind)

@@ -22,7 +22,7 @@ use Rattle.rings.specs.Marks.{marks-same}
 use Rattle.interleave.specs.Block.{transposed}
 use Rattle.interleave.specs.Line.{common, period}
 use Rattle.interleave.specs.Setting as line
-use Rattle.record.specs.Record.{kind}
+use Rattle.record.specs.Order.{compared}
 use Rattle.record.specs.declared.Kind.the-variants.{Newer, Older}
 use Rattle.worked.specs.Gives.{Multiplies, Encodes, Decodes, accepted, Spreads, Sends, Receives, Judges}
 use Rattle.worked.specs.Words.{made, found, lost}
@@ -75,7 +75,7 @@ line224 = record { branches = (lit≤ tt, lit≤ tt); unit = (lit≤ tt, lit≤ 
 -- ---- the rest is computed
 
 pub worked-table : WorkedTable
-unfolding productOf isElement refusal sized proper allowed isField below qualifies isCodeword each valueFrom errorOf errors marked bits total ones onesIn _⊕_ times reduce product power transposed tabulate answer memory position lineOut lineKept ring tri period common kind
+unfolding productOf isElement refusal sized proper allowed isField below qualifies isCodeword each valueFrom errorOf errors marked bits total ones onesIn _⊕_ times reduce product power transposed tabulate answer memory position lineOut lineKept ring tri period common compared
 worked-table = record {
   p1 = λ r e. e;
   p2 = λ r e. e;

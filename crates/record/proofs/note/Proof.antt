@@ -11,16 +11,16 @@ lost-requires : tie.Need-lost-requires
 lost-requires c κs = search needs
 
 returns : tie.Need-returns
-returns c = c .lost .ensures ∙ noted-beyond _ _ _ (c .before .if1 .taken)
+returns c = record { outcome = c .lost .ensures ∙ noted-beyond _ _ _ (c .before .if1 .taken) }
 
 lost-requires-2 : tie.Need-lost-requires-2
 lost-requires-2 c κs = search needs
 
 returns-2 : tie.Need-returns-2
-returns-2 c = c .lost2 .ensures ∙ noted-trailer _ _ _ (c .before .if2 .taken)
+returns-2 c = record { outcome = c .lost2 .ensures ∙ noted-trailer _ _ _ (c .before .if2 .taken) }
 
 returns-3 : tie.Need-returns-3
-returns-3 c = noted-other _ _ _ (c .before .before .if1 .left) (c .before .if2 .left) (c .if3 .taken)
+returns-3 c = record { outcome = noted-other _ _ _ (c .before .before .if1 .left) (c .before .if2 .left) (c .if3 .taken) }
 
 standing-of-requires : tie.Need-standing-of-requires
 standing-of-requires c κs = search needs
@@ -29,7 +29,8 @@ counted-requires : tie.Need-counted-requires
 counted-requires c κs = search needs
 
 returns-4 : tie.Need-returns-4
-returns-4 c = c .counted .ensures ∙ ap (countedAs _ _) (c .before .standing-of .ensures) ∙ noted-accepted _ _ _ (c .before .before .if3 .left)
+returns-4 c =
+    record { outcome = c .counted .ensures ∙ ap (countedAs _ _) (c .before .standing-of .ensures) ∙ noted-accepted _ _ _ (c .before .before .if3 .left) }
 
 pub note-spec : {M : Type 1} → statement M
 note-spec =

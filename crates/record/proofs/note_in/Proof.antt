@@ -39,7 +39,7 @@ use denote.Triple.Walked.{says, Stays, stay-ref, stay-none, walkOf, AllGo, goes-
 use denote.Triple.Clauses.{ensured, lasts}
 use denote.Exit.{yes}
 use Rattle.record.specs.declared.Record.{Record}
-use Rattle.record.specs.Record.{noted}
+use Rattle.record.specs.Promises.{Notes}
 use Rattle.record.proofs.Record as T
 use Rattle.record.proofs.Record.Laws as T′
 use Rattle.record.proofs.note as g
@@ -63,7 +63,7 @@ mach h = only (LL.vals T.the-type T′.the-laws h)
 
 -- what the callee says of its result and of the last lists
 abbrev Said : (h : Record) (n : ℕ) (m : ℕ) (t : Record) → Type 0
-Said h n m t = t ≡ noted h n m
+Said h n m t = Notes h n m t
 
 abbrev G : {M : Type 1} (𝓤 : URA M) (H : Heap 𝓤) (A : Atoms 𝓤) (at-mem : Memory → SProp 𝓤) (run : Routine → Fun 𝓤) → Contract 𝓤
 G 𝓤 H A at-mem run = tripleOf 𝓤 H A g.signature (g.spec 𝓤 H A at-mem run)

@@ -10,9 +10,10 @@ use native.Mathlib.Omega.{arith}
 use lib.Dec.{eqb, ltb}
 use borrow.Author.Tests.{eq-eqb, ne-eqb, lt-ltb}
 use Rattle.algebra.specs.Tests.{if_then_else_, oneIf}
-use Rattle.record.specs.Record.{countedAs, lostAfter, standing, noted}
+use Rattle.record.specs.Order.Laws.{trueOrder, by-order, compared-true}
+use Rattle.record.specs.Record.{countedAs, lostAfter, kindOf, standing, noted}
 use Rattle.record.specs.Record.Laws.{standing-again, standing-first, noted-accepted}
-use Rattle.record.specs.Record.Kinds.{order, by-order, kind-true}
+use Rattle.record.specs.declared.order.Order.the-variants.{Behind}
 use Rattle.record.specs.declared.Record.{Record}
 use Rattle.record.specs.declared.Kind.{Kind}
 use Rattle.record.specs.declared.Kind.the-variants.{Newer, Repeat, Older}
@@ -120,8 +121,8 @@ pub record Stands (h : Record) (top : ℕ) : Type 0 where
   pub last : h .last ≡ top % 65536
 
 -- a frame near enough is judged as the sender's own numbers say
-pub judged : (h : Record) (top t : ℕ) → Stands h top → t ≤ top + 32767 → top ≤ t + 32768 → standing h (t % 65536) ≡ order t top
-judged h top t s a b = sym (standing-again h (t % 65536) (s .accepted)) ∙ rw (s .last) (kind-true t top a b)
+pub judged : (h : Record) (top t : ℕ) → Stands h top → t ≤ top + 32767 → top ≤ t + 32768 → standing h (t % 65536) ≡ kindOf (trueOrder t top)
+judged h top t s a b = sym (standing-again h (t % 65536) (s .accepted)) ∙ rw (s .last) (ap kindOf (compared-true t top a b))
 
 stands-refused : (h : Record) (top number new : ℕ) → Stands h top → number ≢ 0 → Stands (noted h number new) top
 unfolding noted
@@ -131,9 +132,9 @@ stands-refused h top number new s n = rw (ne-eqb number 0 n) (by-test (eqb numbe
     by-test true = record { accepted = s .accepted; last = s .last }
     by-test false = s
 
-stands-order : (h : Record) (top t : ℕ) → Stands h top → Stands (countedAs h (t % 65536) (order t top)) (max top t)
+stands-order : (h : Record) (top t : ℕ) → Stands h top → Stands (countedAs h (t % 65536) (kindOf (trueOrder t top))) (max top t)
 stands-order h top t s =
-    by-order (λ k. Stands (countedAs h (t % 65536) k) (max top t)) t top
+    by-order (λ o. Stands (countedAs h (t % 65536) (kindOf o)) (max top t)) t top
     (λ e. record { accepted = refl; last = omega arith })
     (λ l. record { accepted = refl; last = omega arith })
     (λ l. record { accepted = refl; last = omega arith })
@@ -169,5 +170,5 @@ pub late-copy : (h : Record) (top : ℕ) (heard : List Heard) (t : ℕ) → Stan
     → noted (after h (map carried heard)) 0 (t % 65536) ≡ countedAs (after h (map carried heard)) (t % 65536) Older
 late-copy h top heard t s near l few =
     let r : Record = after h (map carried heard) in
-    let older : order t (highest top heard) ≡ Older = by-order (λ k. k ≡ Older) t (highest top heard) (λ e. absurd (omega arith)) (λ m. absurd (omega arith)) (λ m. refl) in
-    sym (noted-accepted r 0 (t % 65536) refl) ∙ ap (countedAs r (t % 65536)) (judged r (highest top heard) t (newest h top heard s near) (omega arith) few ∙ older)
+    let behind : trueOrder t (highest top heard) ≡ Behind = by-order (λ o. o ≡ Behind) t (highest top heard) (λ e. absurd (omega arith)) (λ m. absurd (omega arith)) (λ m. refl) in
+    sym (noted-accepted r 0 (t % 65536) refl) ∙ ap (countedAs r (t % 65536)) (judged r (highest top heard) t (newest h top heard s near) (omega arith) few ∙ ap kindOf behind)

@@ -21,7 +21,7 @@ same-length c = search needs
 returns : tie.Need-returns
 returns c =
     let got = c .before .before .before .before .receive in
-    heard-so _ _ _ _ _ (got .result) _ _ _ (got .ensures) (c .before .number-of .ensures) (c .note .ensures)
+    heard-so _ _ _ _ _ (got .result) _ _ _ (got .ensures) (c .before .number-of .ensures) (c .note .ensures .outcome)
 
 pub hear-spec : {M : Type 1} → statement M
 hear-spec = tie.close (tie.spec receive-requires number-of-requires note-requires same-length returns)
