@@ -2,16 +2,16 @@
 -- statement here; Proved.antt proves them. They speak of the promises of the calls below, and of no code.
 -- Assumes nothing.
 use mathlib.Core.Path.{_≡_}
-use mathlib.Core.List.{List, [], _∷_}
-use Prim.Native.Nat.{ℕ, _+_, _*_, _≤_, _<_}
+use mathlib.Core.List.{List, []}
+use Prim.Native.Nat.{ℕ, _+_, _-_, _*_, _<_}
 use lib.ListN.{length, getD}
 use lib.Dec.{T}
-use Rattle.interleave.specs.Runs.{Clear}
 use Rattle.frame.specs.Frame.{allowedFrame}
 use Rattle.frame.specs.declared.setting.Framing.{Framing}
-use Rattle.coverage.specs.Channel.{half, Struck, Marked, Each}
-use Rattle.coverage.specs.Frame.{Message, Frame, FrameWithin, frameAt, Arrives, Answer, Answers, ComesBack}
-use Rattle.coverage.specs.Line.{LineSetting, LineAllowed, delay, LineWithin, LineArrives, LineReceived, leaving, WordComesBack}
+use Rattle.coverage.specs.Each.{Each}
+use Rattle.coverage.specs.Channel.{AllWithin, OneRun, SomeRuns, MarkedRuns}
+use Rattle.coverage.specs.Frame.{Message, Frame, inFrame, Arrives, StreamArrives, framesOf, Answer, Answers, ComesBack}
+use Rattle.coverage.specs.Line.{LineSetting, LineAllowed, delay, onLine, LineArrives, LineReceived, leaving, WordComesBack}
 
 -- ---- Any messages that fit, sent over the block frame or the delay line and damaged or marked within that bound in every word, come back as sent.
 
@@ -31,27 +31,25 @@ LineComesBack =
 -- ---- One unmarked run of up to depth · t slots, alone, is within it wherever it falls: in a frame, ..
 
 abbrev pub FrameRunWithin : Type 0
-FrameRunWithin =
-    (f : Framing) (start size : ℕ) (sent slots marks : List ℕ) → size ≤ f .depth * half (f .r)
-    → Struck ((start, size) ∷ []) sent slots marks → FrameWithin f marks slots sent
+FrameRunWithin = (f : Framing) (sent slots marks : List ℕ) → OneRun (f .depth) (inFrame f) sent slots marks → AllWithin (inFrame f) sent slots marks
 
--- .. among frames that come one after the other, so also across the border of two; ..
-abbrev pub FramesRunWithin : Type 0
-FramesRunWithin =
-    (f : Framing) (start size i : ℕ) (sent slots marks : List ℕ) → size ≤ f .depth * half (f .r)
-    → Struck ((start, size) ∷ []) sent slots marks → FrameWithin f (frameAt f marks i) (frameAt f slots i) (frameAt f sent i)
+-- .. among frames that come one after the other, so also across the border of two: each of them comes back; ..
+abbrev pub FramesRunComeBack : Type 0
+FramesRunComeBack =
+    (f : Framing) → T (allowedFrame f) → (ms : List Message) (slots marks : List ℕ) (answers : List Answer)
+    → StreamArrives f ms slots marks → Each (Answers f) (framesOf f (length ms) slots marks) answers → Each ComesBack ms answers
 
 -- .. and on a line.
 abbrev pub LineRunWithin : Type 0
 LineRunWithin =
-    (l : LineSetting) → LineAllowed l → (many start size : ℕ) (sent slots marks : List ℕ) → size ≤ l .branches * half (l .r)
-    → Struck ((start, size) ∷ []) sent slots marks → LineWithin l many marks slots sent
+    (l : LineSetting) → LineAllowed l → (many : ℕ) (sent slots marks : List ℕ)
+    → OneRun (l .branches) (onLine l many) sent slots marks → AllWithin (onLine l many) sent slots marks
 
 -- Several runs on a line are covered if at least n + (I - 1)·M·I clean slots lie between them.
 abbrev pub LineRunsWithin : Type 0
 LineRunsWithin =
-    (l : LineSetting) → LineAllowed l → (many : ℕ) (runs : List (ℕ × ℕ)) (sent slots marks : List ℕ) → Clear (l .branches * half (l .r)) (l .n + delay l) runs
-    → Struck runs sent slots marks → LineWithin l many marks slots sent
+    (l : LineSetting) → LineAllowed l → (many : ℕ) (sent slots marks : List ℕ)
+    → SomeRuns (l .branches) (l .n + delay l) (onLine l many) sent slots marks → AllWithin (onLine l many) sent slots marks
 
 -- ---- So two different lists of equally many messages, sent under one setting and damaged within it, never arrive with the same slots and marks.
 
@@ -71,7 +69,7 @@ pub record Demand3 : Type 0 where
   pub frames : FramesComeBack
   pub line : LineComesBack
   pub frame-run : FrameRunWithin
-  pub frames-run : FramesRunWithin
+  pub frames-run : FramesRunComeBack
   pub line-run : LineRunWithin
   pub line-runs : LineRunsWithin
   pub frames-differ : NoTwoFramesAlike
@@ -79,16 +77,15 @@ pub record Demand3 : Type 0 where
 
 -- ---- Beyond the demand: runs that the receiver has marked may be as long as depth · r, since a marked symbol costs half of an unmarked one.
 
-abbrev pub FrameMarkedRunWithin : Type 0
-FrameMarkedRunWithin =
-    (f : Framing) (start size : ℕ) (sent slots marks : List ℕ) → size ≤ f .depth * f .r
-    → Marked ((start, size) ∷ []) sent slots marks → FrameWithin f marks slots sent
+abbrev pub FrameMarkedRunsWithin : Type 0
+FrameMarkedRunsWithin =
+    (f : Framing) (sent slots marks : List ℕ) → MarkedRuns (f .depth) ((f .n - 1) * f .depth) (inFrame f) sent slots marks → AllWithin (inFrame f) sent slots marks
 
 abbrev pub LineMarkedRunsWithin : Type 0
 LineMarkedRunsWithin =
-    (l : LineSetting) → LineAllowed l → (many : ℕ) (runs : List (ℕ × ℕ)) (sent slots marks : List ℕ) → Clear (l .branches * l .r) (l .n + delay l) runs
-    → Marked runs sent slots marks → LineWithin l many marks slots sent
+    (l : LineSetting) → LineAllowed l → (many : ℕ) (sent slots marks : List ℕ)
+    → MarkedRuns (l .branches) (l .n + delay l) (onLine l many) sent slots marks → AllWithin (onLine l many) sent slots marks
 
-pub record MarkedRuns : Type 0 where
-  pub frame : FrameMarkedRunWithin
+pub record Beyond : Type 0 where
+  pub frame : FrameMarkedRunsWithin
   pub line : LineMarkedRunsWithin

@@ -111,7 +111,7 @@ undamaged many messages words a = record {
 module _ (many : ℕ) (messages came : ℕ → List ℕ) (a : CrossArrives many messages came) where
   -- an inner word with at most two wrong bytes passes on what was due, unmarked
   module _ (F : ℕ) (h : F < many) (n : length (came F) ≡ 32) where
-    came-so : Came innerCode (replicate 32 0) (came F) (a .words F)
+    came-so : Came innerCode (a .words F) (came F) (replicate 32 0)
     came-so = record {
       code = inner-code many messages (a .words) (a .sent) F h;
       near = omega (arith, a .near F h, none-marked 32 (came F) n);
@@ -161,7 +161,7 @@ module _ (many : ℕ) (messages came : ℕ → List ℕ) (a : CrossArrives many 
     marks-back : dueMarks came (F + 108) ≡ replicate 28 0
     marks-back = ext-getD 0 _ _ (lengths .1 ∙ sym (length-replicate {A = ℕ} 28 0)) λ i l. let k = rw (lengths .1) at l in mark-back i k ∙ sym (zeros-at 28 i k)
 
-    clean : Came outerCode (replicate 28 0) (encoded outerCode (messages F)) (encoded outerCode (messages F))
+    clean : Came outerCode (encoded outerCode (messages F)) (encoded outerCode (messages F)) (replicate 28 0)
     clean = record {
       code = outer-code many messages (a .words) (a .sent) F (omega arith);
       near = omega (arith, errors-self (replicate 28 0) (encoded outerCode (messages F)), none-marked 28 (encoded outerCode (messages F)) word-size);

@@ -2,8 +2,8 @@
 -- promises of `send` and `receive`.
 -- Assumes nothing.
 use mathlib.Core.Path.{_≡_}
-use mathlib.Core.List.{List}
-use Prim.Native.Nat.{ℕ, _+_, _-_, _*_, _≤_, _<_}
+use mathlib.Core.List.{List, flatten}
+use Prim.Native.Nat.{ℕ, _+_, _-_, _*_, _/_, _%_, _≤_, _<_}
 use lib.ListN.{length}
 use lib.Dec.{T}
 use Rattle.algebra.specs.Tests.{at, below}
@@ -12,7 +12,8 @@ use Rattle.frame.specs.Frame.{areaSize, slotCount, sendOutcome, sent, answered,
 use Rattle.frame.specs.declared.setting.Framing.{Framing}
 use Rattle.frame.specs.declared.setting.Sent.{Sent}
 use Rattle.frame.specs.declared.setting.Received.{Received}
-use Rattle.coverage.specs.Channel.{Channel, Within}
+use Rattle.coverage.specs.Channel.{Channel, Layout, AllWithin, OneRun}
+use Rattle.coverage.specs.Each.{Each}
 
 -- a frame's message, and whether it fits: a payload of at most A - 4 bytes, and a number of 16 bits
 pub record Message : Type 0 where
@@ -24,37 +25,53 @@ pub record Fits (f : Framing) (m : Message) : Type 0 where
   pub bytes : T (below 256 (m .payload))
   pub number : m .sequence < 65536
 
--- slots that meet the promise of `send`, called with the message and any n·J slots
+-- ---- sending
+
+-- slots that meet the promise of `send`, called with a message that fits and any n·J slots
 pub record FrameSent (f : Framing) (m : Message) (slots : List ℕ) : Type 0 where
+  pub fits : Fits f m
   pub lent : List ℕ
   pub lent-size : length lent ≡ slotCount f
   pub answer : Sent
   pub promise : sendOutcome answer slots ≡ sent f (m .payload) (m .sequence) lent
 
--- word w of a frame's slots: its byte i is in slot i·J + w
-abbrev pub frameWord : Framing → List ℕ → ℕ → List ℕ
-frameWord f slots w = tabulate (f .n) λ i. at slots (i * f .depth + w)
+-- ---- on the channel
 
--- every word of a frame is within the bound
-abbrev pub FrameWithin : Framing → (marks slots sent : List ℕ) → Type 0
-FrameWithin f marks slots sent = (w : ℕ) → w < f .depth → Within (f .r) (frameWord f marks w) (frameWord f slots w) (frameWord f sent w)
+-- the J words of a frame: byte i of word w is in slot i·J + w
+abbrev pub inFrame : Framing → Layout
+inFrame f = record { words = f .depth; n = f .n; r = f .r; slot = λ w i. i * f .depth + w }
 
--- frame i of frames that come one after the other
-abbrev pub frameAt : Framing → List ℕ → ℕ → List ℕ
-frameAt f slots i = tabulate (slotCount f) λ s. at slots (i * slotCount f + s)
+-- those of frames that come one after the other: word w is word w mod J of frame w / J
+abbrev pub inFrames : Framing → ℕ → Layout
+inFrames f many = record { words = many * f .depth; n = f .n; r = f .r; slot = λ w i. i * f .depth + (w / f .depth * slotCount f + w % f .depth) }
 
--- what arrives: slots and their marks
+-- what arrives of a frame: slots and their marks
 pub record Frame : Type 0 where
   pub slots : List ℕ
   pub marks : List ℕ
 
--- a message that fits was sent, and with every word within the bound it arrives as this frame
+-- a message was sent, and with every word within the bound it arrives as this frame
 pub record Arrives (f : Framing) (m : Message) (frame : Frame) : Type 0 where
-  pub fits : Fits f m
-  pub slots : List ℕ
-  pub sending : FrameSent f m slots
+  pub sent : List ℕ
+  pub sending : FrameSent f m sent
   pub channel : Channel (slotCount f) (frame .slots) (frame .marks)
-  pub within : FrameWithin f (frame .marks) (frame .slots) slots
+  pub within : AllWithin (inFrame f) sent (frame .slots) (frame .marks)
+
+-- messages were sent in frames one after the other, and with one run in all their slots and no other damage they arrive in these
+pub record StreamArrives (f : Framing) (messages : List Message) (slots marks : List ℕ) : Type 0 where
+  pub sent : List (List ℕ)
+  pub sending : Each (FrameSent f) messages sent
+  pub channel : Channel (length messages * slotCount f) slots marks
+  pub run : OneRun (f .depth) (inFrames f (length messages)) (flatten sent) slots marks
+
+-- ---- receiving
+
+-- frame i of such slots, and the first frames
+abbrev pub frameAt : Framing → List ℕ → ℕ → List ℕ
+frameAt f slots i = tabulate (slotCount f) λ s. at slots (i * slotCount f + s)
+
+abbrev pub framesOf : Framing → ℕ → (slots marks : List ℕ) → List Frame
+framesOf f many slots marks = tabulate many λ i. record { slots = frameAt f slots i; marks = frameAt f marks i }
 
 -- an answer of `receive` with the area it leaves; it meets the promise for a frame and any lent area of A bytes
 pub record Answer : Type 0 where

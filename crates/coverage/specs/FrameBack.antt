@@ -3,21 +3,22 @@
 -- Assumes nothing.
 use mathlib.Core.Path.{_≡_, refl, sym, ap, ap₂, _∙_}
 use mathlib.Core.Bool.{true}
-use mathlib.Core.List.{List, _++_, append-assoc}
+use mathlib.Core.List.{List, [], _++_, append-assoc, flatten}
 use mathlib.Core.Option.{some}
 use Prim.Native.Nat.{ℕ, zero, suc, _+_, _-_, _*_, _/_, _%_, _≤_, _<_}
 use native.Mathlib.Nat.{zero-mul, suc-mul}
 use native.Mathlib.Omega.{arith}
-use lib.ListN.{length, take, drop, replicate, length-drop, length-replicate}
+use lib.ListN.{length, getD, take, drop, replicate, length-drop, length-replicate}
 use lib.Seq.{take-add, take-at, drop-at, take-all, length-take-le, getD-take, getD-drop}
 use lib.Dec.{T, ltb, lt→ltb}
 use Rattle.algebra.specs.Tests.{at, below, both, below-all, below-at, below-append, first-none, passed}
-use Rattle.algebra.specs.Lists.{length-tabulate}
+use Rattle.algebra.specs.Lists.{tabulated, length-tabulate}
 use Rattle.word.specs.Setting.{allowed, messageSize, allowed-yes}
 use Rattle.word.specs.Code.{encoded}
+use Rattle.interleave.specs.Block.{transposed}
 use Rattle.frame.specs.Lists.{joined, part, within}
 use Rattle.frame.specs.Slots.{wordIn, word-back}
-use Rattle.frame.specs.Frame.{wordSetting, areaSize, allowedFrame, two, twoAt, trailer, areaSent, wordSent, slotsSent, trailerGood, correctedWord, isNone, messageOf, beyond, areaReceived, figuresReceived, payloadOf, answered, received, numberOf}
+use Rattle.frame.specs.Frame.{wordSetting, areaSize, slotCount, allowedFrame, two, twoAt, trailer, areaSent, wordSent, slotsSent, trailerGood, correctedWord, isNone, messageOf, beyond, areaReceived, figuresReceived, payloadOf, answered, received, numberOf}
 use Rattle.frame.specs.Frame.Limits.{FrameAllowed, frame-kept, area-few}
 use Rattle.frame.specs.Frame.Trailer.{length-sent, sent-zero, sent-trailer, zeros-all, good-within, payload-there}
 use Rattle.frame.specs.Sending.{send-done, send-once}
@@ -26,9 +27,12 @@ use Rattle.frame.specs.declared.setting.Framing.{Framing}
 use Rattle.frame.specs.declared.setting.Received.{Received}
 use Rattle.frame.specs.declared.setting.Sent.the-variants as S
 use Rattle.frame.specs.declared.setting.Verdict.the-variants.{Done}
-use Rattle.coverage.specs.Frame.{Message, Fits, FrameSent, frameWord, Frame, Arrives, Answer, Answers, ComesBack}
-use Rattle.coverage.specs.Coverage.{FrameComesBack, FramesComeBack, NoTwoFramesAlike}
-use Rattle.coverage.specs.Each.{each-chain, each-once}
+use Rattle.coverage.specs.Channel.{Channel, wordOf}
+use Rattle.coverage.specs.Frame.{Message, Fits, FrameSent, inFrame, Frame, Arrives, StreamArrives, frameAt, framesOf, Answer, Answers, ComesBack}
+use Rattle.coverage.specs.Coverage.{FrameComesBack, FramesComeBack, FramesRunComeBack, NoTwoFramesAlike}
+use Rattle.coverage.specs.Each.{Each, each-length, each-entry, each-tabulate, each-chain, each-once}
+use Rattle.coverage.specs.EndToEnd.{Sized, flatten-at}
+use Rattle.coverage.specs.RunsCovered.{frames-run-within}
 use Rattle.coverage.specs.Words.{Came, tabulate-below, word-corrected, encoded-code, encoded-size, encoded-message}
 
 -- ---- the parts of a list, joined again
@@ -96,12 +100,20 @@ module _ (f : Framing) (ok : T (allowedFrame f)) where
     message-bytes w l = below-all 256 (message w) λ i u.
         rw (getD-take k (drop (w * k) area) i 0 (omega (arith, message-size w l)), getD-drop (w * k) area i 0) (below-at 256 area area-bytes (w * k + i) (omega arith))
 
-    -- slots that meet the promise of `send` hold these words
-    slots-hold : (slots : List ℕ) → FrameSent f m slots → (w : ℕ) → w < f .depth → frameWord f slots w ≡ word w
-    unfolding wordIn wordSent slotsSent
-    slots-hold slots s w l =
-        ap (λ (z : List ℕ). frameWord f z w) (send-once f (m .payload) (m .sequence) (s .lent) (s .answer) S.Done slots _ (s .promise) (send-done f (m .payload) (m .sequence) (s .lent) (passed _ ok) (s .lent-size) (fits .short) _ refl) .1)
-        ∙ word-back (f .depth) (f .n) word (λ v h. encoded-size (wordSetting f) code-allowed (message v) (message-size v h) (message-bytes v h)) w l
+    -- slots that meet the promise of `send` are n·J, and hold these words
+    module _ (slots : List ℕ) (s : FrameSent f m slots) where
+      slots-are : slots ≡ slotsSent f (m .payload) (m .sequence)
+      slots-are = send-once f (m .payload) (m .sequence) (s .lent) (s .answer) S.Done slots _ (s .promise) (send-done f (m .payload) (m .sequence) (s .lent) (passed _ ok) (s .lent-size) (fits .short) _ refl) .1
+
+      slots-size : length slots ≡ slotCount f
+      unfolding slotsSent transposed
+      slots-size = ap length slots-are ∙ length-tabulate (slotCount f) _
+
+      slots-hold : (w : ℕ) → w < f .depth → wordOf (inFrame f) slots w ≡ word w
+      unfolding wordIn wordSent slotsSent
+      slots-hold w l =
+          ap (λ (z : List ℕ). wordOf (inFrame f) z w) slots-are
+          ∙ word-back (f .depth) (f .n) word (λ v h. encoded-size (wordSetting f) code-allowed (message v) (message-size v h) (message-bytes v h)) w l
 
     -- ---- the trailer that was sent
 
@@ -139,10 +151,10 @@ module _ (f : Framing) (ok : T (allowedFrame f)) where
       abbrev answer : Received
       answer = record { verdict = Done; sequence = m .sequence; back = length (m .payload); figures = figuresReceived f (frame .marks) (frame .slots) }
 
-      word-came : (w : ℕ) → w < f .depth → Came (wordSetting f) (frameWord f (frame .marks) w) (frameWord f (frame .slots) w) (word w)
+      word-came : (w : ℕ) → w < f .depth → Came (wordSetting f) (word w) (wordOf (inFrame f) (frame .slots) w) (wordOf (inFrame f) (frame .marks) w)
       word-came w l = record {
         code = encoded-code (wordSetting f) code-allowed (message w) (message-size w l) (message-bytes w l);
-        near = rw (slots-hold (a .slots) (a .sending) w l) at (a .within w l);
+        near = rw (slots-hold (a .sent) (a .sending) w l) at (a .within w l);
         size = length-tabulate (f .n) _;
         marks-size = length-tabulate (f .n) _;
         bytes = tabulate-below 256 (f .n) _ λ i u. below-at 256 (frame .slots) (a .channel .bytes) _ (omega arith);
@@ -193,16 +205,52 @@ module _ (f : Framing) (ok : T (allowedFrame f)) where
       )
 
 pub frame-comes-back : FrameComesBack
-frame-comes-back f ok m frame r a p = comes-back f ok m (a .fits) frame a r p
+frame-comes-back f ok m frame r a p = comes-back f ok m (a .sending .fits) frame a r p
 
 pub frames-come-back : FramesComeBack
 frames-come-back f ok = each-chain (Arrives f) (Answers f) ComesBack (frame-comes-back f ok)
+
+-- ---- frames one after the other, in whose slots one run falls: each arrives within the bound
+
+module _ (f : Framing) (ok : T (allowedFrame f)) (ms : List Message) (slots marks : List ℕ) (a : StreamArrives f ms slots marks) where
+  abbrev none : Message
+  none = record { payload = []; sequence = 0 }
+
+  frame-sent : (i : ℕ) → i < length ms → FrameSent f (getD ms i none) (getD (a .sent) i [])
+  frame-sent = each-entry (FrameSent f) ms (a .sent) none [] (a .sending)
+
+  frame-size : Sized (slotCount f) (a .sent)
+  frame-size i h = let s = frame-sent i (rw (each-length (FrameSent f) ms (a .sent) (a .sending)) h) in slots-size f ok (getD ms i none) (s .fits) (getD (a .sent) i []) s
+
+  frame-back : (i : ℕ) → i < length ms → frameAt f (flatten (a .sent)) i ≡ getD (a .sent) i []
+  frame-back i h =
+      let k : i < length (a .sent) = rw (← each-length (FrameSent f) ms (a .sent) (a .sending)) h in
+      sym (tabulated (getD (a .sent) i []) (slotCount f) _ 0 (frame-size i k) λ s l. sym (flatten-at (slotCount f) (a .sent) frame-size i s k l))
+
+  frame-channel : (i : ℕ) → i < length ms → Channel (slotCount f) (frameAt f slots i) (frameAt f marks i)
+  frame-channel i h = record {
+    slots-size = length-tabulate (slotCount f) _;
+    marks-size = length-tabulate (slotCount f) _;
+    bytes = tabulate-below 256 (slotCount f) _ λ s l. below-at 256 slots (a .channel .bytes) _ (omega arith);
+    zero-or-one = tabulate-below 2 (slotCount f) _ λ s l. below-at 2 marks (a .channel .zero-or-one) _ (omega arith);
+  }
+
+  frames-arrive : Each (Arrives f) ms (framesOf f (length ms) slots marks)
+  frames-arrive = each-tabulate (Arrives f) ms none _ λ i h. record {
+    sent = getD (a .sent) i [];
+    sending = frame-sent i h;
+    channel = frame-channel i h;
+    within = rw (frame-back i h) at (frames-run-within f (length ms) i h (flatten (a .sent)) slots marks (a .run));
+  }
+
+pub frames-run-come-back : FramesRunComeBack
+frames-run-come-back f ok ms slots marks answers a = frames-come-back f ok ms _ answers (frames-arrive f ok ms slots marks a)
 
 -- ---- no two alike: one answer to the frame would have to give both messages
 
 frame-once : (f : Framing) → T (allowedFrame f) → (m n : Message) (frame : Frame) → Arrives f m frame → Arrives f n frame → m ≡ n
 frame-once f ok m n frame a b =
-    let (r, p) = some-answer f ok m (a .fits) frame a in
+    let (r, p) = some-answer f ok m (a .sending .fits) frame a in
     let x : ComesBack m r = frame-comes-back f ok m frame r a p in
     let y : ComesBack n r = frame-comes-back f ok n frame r b p in
     λ i. record { payload = (sym (x .payload) ∙ y .payload) i; sequence = (sym (x .sequence) ∙ y .sequence) i }

@@ -3,7 +3,7 @@
 -- Assumes nothing.
 use mathlib.Core.Path.{_≡_}
 use mathlib.Core.List.{List, [], _∷_, _++_, flatten}
-use Prim.Native.Nat.{ℕ, _+_, _-_, _*_, _%_, _≤_, _<_}
+use Prim.Native.Nat.{ℕ, _+_, _-_, _*_, _%_}
 use lib.ListN.{length, take, replicate}
 use lib.Dec.{T}
 use Rattle.algebra.specs.Tests.{at, below}
@@ -13,13 +13,15 @@ use Rattle.word.specs.Answers.{numberOf, outcome, decoded, decodedPart, encodeO
 use Rattle.word.specs.declared.Setting.{Setting}
 use Rattle.word.specs.declared.Encoded.{Encoded}
 use Rattle.word.specs.declared.Decoded.{Decoded}
+use Rattle.interleave.specs.Setting as L
 use Rattle.interleave.specs.Setting.{memorySize}
 use Rattle.interleave.specs.Promises.{FreshSender, SendStep, SendRun, FreshReceiver, ReceiveStep, ReceiveRun}
 use Rattle.interleave.specs.declared.line.Line.{Line}
 use Rattle.interleave.specs.declared.line.Ready.{Ready}
 use Rattle.interleave.specs.declared.line.Sent.{Sent}
 use Rattle.interleave.specs.declared.line.Received.{Received}
-use Rattle.coverage.specs.Channel.{Channel, Within, Each}
+use Rattle.coverage.specs.Channel.{Channel, Layout, AllWithin}
+use Rattle.coverage.specs.Each.{Each}
 
 -- ---- the setting
 
@@ -36,10 +38,7 @@ codeOf l = record { m = 8; n = l .n; r = l .r; b = l .b }
 
 -- the limits of the line, and of its words
 pub record LineAllowed (l : LineSetting) : Type 0 where
-  pub branches : (2 ≤ l .branches) × (l .branches ≤ 16)
-  pub unit : (1 ≤ l .unit) × (l .unit ≤ 128)
-  pub whole : l .n % l .branches ≡ 0
-  pub room : l .n ≤ l .unit * l .branches
+  pub line : L.Setting (l .branches) (l .unit) (l .n)
   pub code : T (allowed (codeOf l))
 
 -- the steps from the sender's input to the receiver's output: (I - 1)·M·I
@@ -79,13 +78,13 @@ pub record LineSent (l : LineSetting) (bytes slots : List ℕ) : Type 0 where
 
 -- ---- on the line
 
--- word w of a line's slots: its byte p is held back by p mod I units
-abbrev pub lineWord : LineSetting → List ℕ → ℕ → List ℕ
-lineWord l slots w = tabulate (l .n) λ p. at slots (w * l .n + p + p % l .branches * l .unit * l .branches)
+-- place p of word w, the words put in end to end from step 0: it is held back by p mod I units
+unfoldable pub slotOf : LineSetting → ℕ → ℕ → ℕ
+slotOf l w p = w * l .n + p + p % l .branches * l .unit * l .branches
 
--- the first words on a line are within the bound; slots that carry none of them may hold anything
-abbrev pub LineWithin : LineSetting → ℕ → (marks slots sent : List ℕ) → Type 0
-LineWithin l many marks slots sent = (w : ℕ) → w < many → Within (l .r) (lineWord l marks w) (lineWord l slots w) (lineWord l sent w)
+-- the first words on a line
+abbrev pub onLine : LineSetting → ℕ → Layout
+onLine l many = record { words = many; n = l .n; r = l .r; slot = slotOf l }
 
 -- messages were encoded and sent, and with every word within the bound they arrive in these slots with these marks
 pub record LineArrives (l : LineSetting) (messages : List (List ℕ)) (slots marks : List ℕ) : Type 0 where
@@ -94,7 +93,7 @@ pub record LineArrives (l : LineSetting) (messages : List (List ℕ)) (slots mar
   pub sent : List ℕ
   pub sending : LineSent l (fed l words) sent
   pub channel : Channel (length (fed l words)) slots marks
-  pub within : LineWithin l (length messages) marks slots sent
+  pub within : AllWithin (onLine l (length messages)) sent slots marks
 
 -- ---- receiving
 

@@ -2,52 +2,32 @@
 -- slots held, and the decoder does the rest (document 01, Delay line).
 -- Assumes nothing.
 use mathlib.Core.Path.{_≡_, refl, sym, ap, _∙_}
-use mathlib.Core.List.{List, [], _∷_, _++_, flatten}
-use Prim.Native.Nat.{ℕ, zero, suc, _+_, _-_, _*_, _%_, _≤_, _<_}
-use native.Mathlib.Nat.{not-suc-le-zero, zero-mul, suc-mul, zero-add, mul-le-mul-right, mod-lt}
+use mathlib.Core.List.{List, [], flatten}
+use Prim.Native.Nat.{ℕ, _+_, _-_, _*_, _%_, _≤_, _<_}
+use native.Mathlib.Nat.{suc-mul, mul-le-mul-right, mod-lt}
 use native.Mathlib.Omega.{arith}
 use lib.ListN.{length, getD, take, replicate, length-append, length-replicate, List·getD-append}
-use lib.Seq.{getD-append-add, ext-getD}
+use lib.Seq.{ext-getD}
 use lib.Dec.{T}
 use Rattle.algebra.specs.Tests.{at, below-at}
 use Rattle.algebra.specs.Lists.{tabulate, tabulated, length-tabulate, getD-tabulate, tabulate-same}
-use Rattle.word.specs.Setting.{messageSize, limits, at-most}
+use Rattle.word.specs.Setting.{messageSize}
 use Rattle.word.specs.Code.{encoded}
 use Rattle.word.specs.Codeword.{isCodeword, codeword}
 use Rattle.rings.specs.Marks.{Marks, marks-same}
 use Rattle.interleave.specs.Line.{sent, received, reachable}
 use Rattle.interleave.specs.Setting.{memorySize, lineAt, receiverRefusal, runRefusal, Fine, line-done, receiver-done, run-done}
-use Rattle.interleave.specs.Setting as L
 use Rattle.interleave.specs.Steps.{blank}
 use Rattle.interleave.specs.Calls.{sends-run, receives-run}
 use Rattle.interleave.specs.declared.line.Ready.{Ready}
-use Rattle.interleave.specs.Runs.{slotOf}
-use Rattle.interleave.specs.Damage.{line-place, line-found}
-use Rattle.coverage.specs.Channel.{Channel}
-use Rattle.coverage.specs.Line.{LineSetting, codeOf, LineAllowed, delay, WordSent, fed, LineSent, lineWord, LineArrives, LineReceived, leaving}
+use Rattle.coverage.specs.Channel.{Channel, wordOf}
+use Rattle.coverage.specs.Line.{LineSetting, codeOf, LineAllowed, delay, WordSent, fed, LineSent, slotOf, onLine, LineArrives, LineReceived, leaving}
 use Rattle.coverage.specs.Coverage.{LineComesBack, NoTwoLinesAlike}
 use Rattle.coverage.specs.Each.{each-length, each-entry}
+use Rattle.coverage.specs.EndToEnd.{Sized, flatten-length, flatten-at}
+use Rattle.coverage.specs.Places.{line-place, line-found}
 use Rattle.coverage.specs.LineCalls.{Prepared, sender-calls, receiver-calls}
 use Rattle.coverage.specs.Words.{Came, tabulate-below, word-encoded, encoded-code, encoded-message, word-once, word-decoded, part-decoded}
-
--- ---- words of n symbols end to end
-
-abbrev Sized : ℕ → List (List ℕ) → Type 0
-Sized n words = (w : ℕ) → w < length words → length (getD words w []) ≡ n
-
-flatten-length : (n : ℕ) (words : List (List ℕ)) → Sized n words → length (flatten words) ≡ length words * n
-unfolding flatten
-flatten-length n [] h = sym (zero-mul n)
-flatten-length n (x ∷ words) h =
-    length-append x (flatten words) ∙ omega (arith, h 0 (omega arith), flatten-length n words (λ w l. h (suc w) (omega arith)), suc-mul (length words) n)
-
-flatten-at : (n : ℕ) (words : List (List ℕ)) → Sized n words → (w p : ℕ) → w < length words → p < n → at (flatten words) (w * n + p) ≡ at (getD words w []) p
-unfolding flatten
-flatten-at n [] h w p l u = absurd (not-suc-le-zero l)
-flatten-at n (x ∷ words) h zero p l u = rw (zero-mul, zero-add) (List·getD-append x (flatten words) 0 p (omega (arith, h 0 (omega arith))))
-flatten-at n (x ∷ words) h (suc w) p l u =
-    let e : suc w * n + p ≡ length x + (w * n + p) = omega (arith, suc-mul w n, h 0 (omega arith)) in
-    ap (at (x ++ flatten words)) e ∙ getD-append-add x (flatten words) (w * n + p) 0 ∙ flatten-at n words (λ v k. h (suc v) (omega arith)) w p (omega arith) u
 
 module _ (l : LineSetting) (ok : LineAllowed l) where
   abbrev I : ℕ
@@ -59,15 +39,10 @@ module _ (l : LineSetting) (ok : LineAllowed l) where
   abbrev n : ℕ
   n = l .n
 
-  setting : L.Setting I M n
-  setting =
-      let a = limits (codeOf l) (ok .code) in
-      record { branches = ok .branches; unit = ok .unit; size = (omega arith, at-most (codeOf l) a); whole = ok .whole; room = ok .room }
-
   -- ---- the calls on fresh lines
 
   fresh : (size : ℕ) → size ≡ memorySize I M → Fine (lineAt I M n 0) size
-  fresh size e = record { allowed = record { setting = setting; position = omega (arith, reachable I M (ok .branches .0) (ok .branches .1) (ok .unit .0) 0) }; exact = e }
+  fresh size e = record { allowed = record { setting = ok .line; position = omega (arith, reachable I M (ok .line .branches .0) (ok .line .branches .1) (ok .line .unit .0) 0) }; exact = e }
 
   blank-fine : Fine (lineAt I M n 0) (length (blank I M 0))
   blank-fine = fresh _ (length-replicate (memorySize I M) 0)
@@ -81,7 +56,7 @@ module _ (l : LineSetting) (ok : LineAllowed l) where
       let line : s .ready .line ≡ lineAt I M n 0 = ap (λ (z : Ready). z .line) (s .fresh .answer) in
       let memory : s .memory ≡ blank I M 0 = rw (line-done _ _ (fresh (length (s .lent)) (s .lent-size))) at (s .fresh .memory) in
       sender-calls (rw (line, memory) at (s .calls)) blank-fine
-      ∙ (rw (line-done _ _ blank-fine) at (sends-run I M n setting bytes _ _ _ (record { answer = refl; memory = refl; bytes = refl }) .1))
+      ∙ (rw (line-done _ _ blank-fine) at (sends-run I M n (ok .line) bytes _ _ _ (record { answer = refl; memory = refl; bytes = refl }) .1))
 
   module _ (slots marks : List ℕ) (size : ℕ) (c : Channel size slots marks) (bytes flags : List ℕ) (r : LineReceived l slots marks bytes flags) where
     marks-few : Marks marks
@@ -97,7 +72,7 @@ module _ (l : LineSetting) (ok : LineAllowed l) where
         let run : runRefusal (lineAt I M n 0) (length (blank I M 0)) (blank I M 1) (length slots) marks ≡ 0 =
         run-done _ _ _ _ _ (record { line = blank-prepared .line; exact = blank-prepared .exact; each = same; fit = blank-prepared .fit; small = marks-few }) in
         let (x, y) = receiver-calls (rw (line, memory, held) at (r .calls)) blank-prepared marks-few in
-        let (_, b, k) = receives-run I M n setting slots marks _ _ _ _ _ same marks-few (record { answer = refl; memory = refl; held = refl; bytes = refl; marks = refl }) in
+        let (_, b, k) = receives-run I M n (ok .line) slots marks _ _ _ _ _ same marks-few (record { answer = refl; memory = refl; held = refl; bytes = refl; marks = refl }) in
         (x ∙ (rw (run, c .slots-size) at b), y ∙ (rw (run, c .slots-size) at k))
 
   -- ---- words on the line
@@ -140,9 +115,10 @@ module _ (l : LineSetting) (ok : LineAllowed l) where
       put-in : w * n + p < length messages * n
       put-in = omega (arith, mul-le-mul-right n h, suc-mul w n)
 
-      slot-in : w * n + p + p % I * M * I < length (fed l (a .words))
+      slot-in : slotOf l w p < length (fed l (a .words))
+      unfolding slotOf
       slot-in =
-          let j : p % I ≤ I - 1 = let b : 0 < I = omega (arith, ok .branches .0) in omega (arith, mod-lt p b) in
+          let j : p % I ≤ I - 1 = let b : 0 < I = omega (arith, ok .line .branches .0) in omega (arith, mod-lt p b) in
           omega (arith, put-in, steps, mul-le-mul-right I (mul-le-mul-right M j))
 
       leaves-in : w * n + p + delay l < length (fed l (a .words))
@@ -153,14 +129,13 @@ module _ (l : LineSetting) (ok : LineAllowed l) where
           List·getD-append (flatten (a .words)) (replicate (delay l) 0) 0 (w * n + p) (omega (arith, put-in, flatten-length n (a .words) sized, ap (λ (z : ℕ). z * n) many))
           ∙ flatten-at n (a .words) sized w p (omega (arith, many)) u
 
-    on-line : (w : ℕ) → w < length messages → lineWord l (a .sent) w ≡ word w
-    unfolding slotOf
+    on-line : (w : ℕ) → w < length messages → wordOf (onLine l (length messages)) (a .sent) w ≡ word w
     on-line w h = sym (tabulated (word w) n _ 0 (word-size w h) λ p u.
-        sym (ap (λ (z : List ℕ). at z (slotOf I M n w p)) (slots-sent (fed l (a .words)) (a .sent) (a .sending))
-        ∙ getD-tabulate _ (sent I M (at (fed l (a .words)))) (slotOf I M n w p) 0 (slot-in w p h u)
-        ∙ line-place I M n setting (at (fed l (a .words))) w p ∙ fed-at w p h u))
+        sym (ap (λ (z : List ℕ). at z (slotOf l w p)) (slots-sent (fed l (a .words)) (a .sent) (a .sending))
+        ∙ getD-tabulate _ (sent I M (at (fed l (a .words)))) (slotOf l w p) 0 (slot-in w p h u)
+        ∙ line-place l ok w (at (fed l (a .words))) p ∙ fed-at w p h u))
 
-    word-came : (w : ℕ) → w < length messages → Came (codeOf l) (lineWord l marks w) (lineWord l slots w) (word w)
+    word-came : (w : ℕ) → w < length messages → Came (codeOf l) (word w) (wordOf (onLine l (length messages)) slots w) (wordOf (onLine l (length messages)) marks w)
     word-came w h = record {
       code = word-code w h;
       near = rw (on-line w h) at (a .within w h);
@@ -172,15 +147,14 @@ module _ (l : LineSetting) (ok : LineAllowed l) where
 
     -- what leaves the receiver is what the word's slots held
     module _ (bytes flags : List ℕ) (r : LineReceived l slots marks bytes flags) where
-      leaves : (w : ℕ) → w < length messages → (leaving l bytes w ≡ lineWord l slots w) × (leaving l flags w ≡ lineWord l marks w)
-      unfolding slotOf
+      leaves : (w : ℕ) → w < length messages → (leaving l bytes w ≡ wordOf (onLine l (length messages)) slots w) × (leaving l flags w ≡ wordOf (onLine l (length messages)) marks w)
       leaves w h =
           let (b, k) = received-all slots marks (length (fed l (a .words))) (a .channel) bytes flags r in
           (from 0 slots bytes b, from 1 marks flags k)
         where
-          from : (d : ℕ) (x y : List ℕ) → y ≡ tabulate (length (fed l (a .words))) (received I M d (at x)) → leaving l y w ≡ lineWord l x w
+          from : (d : ℕ) (x y : List ℕ) → y ≡ tabulate (length (fed l (a .words))) (received I M d (at x)) → leaving l y w ≡ wordOf (onLine l (length messages)) x w
           from d x y e = tabulate-same n _ _ λ p u.
-              ap (λ (z : List ℕ). at z (w * n + p + delay l)) e ∙ getD-tabulate _ (received I M d (at x)) (w * n + p + delay l) 0 (leaves-in w p h u) ∙ line-found I M n setting d (at x) w p
+              ap (λ (z : List ℕ). at z (w * n + p + delay l)) e ∙ getD-tabulate _ (received I M d (at x)) (w * n + p + delay l) 0 (leaves-in w p h u) ∙ line-found l ok w d (at x) p
 
 pub line-comes-back : LineComesBack
 line-comes-back l ok messages slots marks bytes flags a r w h =

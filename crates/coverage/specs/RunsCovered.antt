@@ -1,28 +1,27 @@
 -- Unmarked runs of up to depth · t slots leave every word within the bound (document 01, Block interleaver and frame, Delay line): the slots of
--- one word lie at least the depth apart, so such a run holds at most t of them.
+-- one word lie at least the depth apart, so such a run holds at most t of them; and no word has slots in two runs.
 -- Assumes nothing.
-use mathlib.Core.Path.{_≡_, ap, _∙_}
+use mathlib.Core.Path.{_≡_, sym, ap, _∙_}
 use mathlib.Core.Bool.{Bool, true, false, _&&_, not}
 use mathlib.Core.List.{List, [], _∷_}
-use mathlib.Core.Logic.{⊎-elim}
 use Prim.Native.Nat.{ℕ, zero, suc, _+_, _*_, _≤_, _<_}
-use native.Mathlib.Nat.{dvd-of-mod-eq-zero}
 use native.Mathlib.Decide.{ℕ-discrete}
 use native.Mathlib.Omega.{arith}
 use lib.Dec.{eqb}
 use Rattle.algebra.specs.Tests.{at, oneIf, total, total-same}
-use Rattle.algebra.specs.Sets.{count, count-mono, one-yes}
-use Rattle.algebra.specs.Lists.{tabulate, length-tabulate, getD-tabulate, tabulate-same}
+use Rattle.algebra.specs.Sets.{count, one-yes}
+use Rattle.algebra.specs.Lists.{length-tabulate, getD-tabulate, tabulate-same}
 use Rattle.word.specs.Word.{errorOf, errorOf-same, errorOf-marked, errors, marked}
 use Rattle.word.specs.Distance.{total-zero}
-use Rattle.interleave.specs.Block.{in-block}
-use Rattle.interleave.specs.Runs.{in?, hit?, Clear, run, runs, block-spaced, slotOf, line-spaced, line-near}
+use Rattle.interleave.specs.Block.{low, high, in-block}
 use Rattle.frame.specs.Frame.{slotCount}
 use Rattle.frame.specs.declared.setting.Framing.{Framing}
-use Rattle.coverage.specs.Channel.{Within, half, Struck, Marked}
-use Rattle.coverage.specs.Frame.{frameWord, frameAt}
-use Rattle.coverage.specs.Line.{LineSetting, LineAllowed, delay}
-use Rattle.coverage.specs.Coverage.{FrameRunWithin, FramesRunWithin, LineRunWithin, LineRunsWithin, FrameMarkedRunWithin, LineMarkedRunsWithin}
+use Rattle.coverage.specs.Runs.{hit?, runs, Spaced, Near}
+use Rattle.coverage.specs.Channel.{Layout, wordOf, AllWithin, half, OneRun, SomeRuns, MarkedRuns}
+use Rattle.coverage.specs.Frame.{inFrame, inFrames, frameAt}
+use Rattle.coverage.specs.Line.{onLine}
+use Rattle.coverage.specs.Coverage.{FrameRunWithin, LineRunWithin, LineRunsWithin, FrameMarkedRunsWithin, LineMarkedRunsWithin}
+use Rattle.coverage.specs.Places.{block-spaced, block-near, line-spaced, line-near}
 
 -- ---- a word of slots that runs have struck
 
@@ -43,97 +42,82 @@ error-most mark x y = go (eqb mark 0 && not (eqb x y))
     go true = omega arith
     go false = omega arith
 
-module _ (n r : ℕ) (slot : ℕ → ℕ) (runs : List (ℕ × ℕ)) (sent slots marks : List ℕ) where
-  -- the symbols of a word whose place p travels in slot p
-  abbrev word : List ℕ → List ℕ
-  word x = tabulate n λ p. at x (slot p)
+-- words whose slots lie at least the depth apart, and at most the gap
+module _ (y : Layout) (depth gap : ℕ) (spaced : (w : ℕ) → Spaced depth (y .n) (y .slot w)) (near : (w : ℕ) → Near gap (y .n) (y .slot w)) (sent slots marks : List ℕ) where
+  module _ (w : ℕ) where
+    -- what is wrong at place p, and what is marked
+    abbrev wrong : ℕ → ℕ
+    wrong p = errorOf (at marks (y .slot w p)) (at slots (y .slot w p)) (at sent (y .slot w p))
 
-  word-at : (x : List ℕ) (p : ℕ) → p < n → at (word x) p ≡ at x (slot p)
-  word-at x p l = getD-tabulate n (λ p. at x (slot p)) p 0 l
+    abbrev mark : ℕ → ℕ
+    mark p = at marks (y .slot w p)
 
-  errors-total : errors (word marks) (word slots) (word sent) ≡ total n (λ p. errorOf (at marks (slot p)) (at slots (slot p)) (at sent (slot p)))
-  unfolding errors
-  errors-total = rw length-tabulate (total-same n _ _ λ p l. rw (word-at marks p l, word-at slots p l, word-at sent p l))
+    at-place : (x : List ℕ) (p : ℕ) → p < y .n → at (wordOf y x w) p ≡ at x (y .slot w p)
+    at-place x p l = getD-tabulate (y .n) (λ p. at x (y .slot w p)) p 0 l
 
-  marked-total : marked (word marks) (word slots) ≡ total n (λ p. at marks (slot p))
-  unfolding marked
-  marked-total = rw length-tabulate (total-same n _ _ λ p l. word-at marks p l)
+    errors-total : errors (wordOf y marks w) (wordOf y slots w) (wordOf y sent w) ≡ total (y .n) wrong
+    unfolding errors
+    errors-total = rw length-tabulate (total-same (y .n) _ _ λ p l. rw (at-place marks p l, at-place slots p l, at-place sent p l))
 
-  pub struck-within : Struck runs sent slots marks → count (λ p. hit? runs (slot p)) n ≤ half r → Within r (word marks) (word slots) (word sent)
-  struck-within h few =
+    marked-total : marked (wordOf y marks w) (wordOf y slots w) ≡ total (y .n) mark
+    unfolding marked
+    marked-total = rw length-tabulate (total-same (y .n) _ _ λ p l. at-place marks p l)
+
+  pub runs-within : SomeRuns depth gap y sent slots marks → AllWithin y sent slots marks
+  runs-within h w k =
       omega (
         arith,
-        errors-total,
-        marked-total,
-        total-count (λ p. hit? runs (slot p)) n (λ p. errorOf (at marks (slot p)) (at slots (slot p)) (at sent (slot p))) (λ p l. error-most (at marks (slot p)) (at slots (slot p)) (at sent (slot p)))
-            (λ p l clean. errorOf-same _ _ _ (h .clean (slot p) clean)),
-        total-zero n (λ p. at marks (slot p)) (λ p l. h .unmarked (slot p)),
+        errors-total w,
+        marked-total w,
+        total-zero (y .n) (mark w) (λ p l. h .alone .unmarked w p k l),
+        total-count (λ p. hit? (h .runs) (y .slot w p)) (y .n) (wrong w) (λ p l. error-most _ _ _) (λ p l clean. errorOf-same _ _ _ (h .alone .clean w p k l clean)),
+        runs depth gap (y .n) (half (y .r)) (y .slot w) (spaced w) (near w) (h .runs) (h .apart),
       )
 
-  pub marked-within : Marked runs sent slots marks → count (λ p. hit? runs (slot p)) n ≤ r → Within r (word marks) (word slots) (word sent)
-  marked-within h few =
+  pub run-within : OneRun depth y sent slots marks → AllWithin y sent slots marks
+  run-within h = runs-within (record { runs = (h .start, h .size) ∷ []; apart = (h .short, tt, tt); alone = h .alone })
+
+  pub marked-within : MarkedRuns depth gap y sent slots marks → AllWithin y sent slots marks
+  marked-within h w k =
       omega (
         arith,
-        errors-total,
-        marked-total,
-        total-zero n (λ p. errorOf (at marks (slot p)) (at slots (slot p)) (at sent (slot p))) (λ p l. elim (ℕ-discrete (at marks (slot p)) 0) [
-          | yes e ↦ errorOf-same (at marks (slot p)) (at slots (slot p)) (at sent (slot p)) (h .clean (slot p) e)
-          | no e ↦ errorOf-marked (at marks (slot p)) (at slots (slot p)) (at sent (slot p)) e
+        errors-total w,
+        marked-total w,
+        total-zero (y .n) (wrong w) (λ p l. elim (ℕ-discrete (mark w p) 0) [
+          | yes e ↦ errorOf-same _ _ _ (h .clean w p k l e)
+          | no e ↦ errorOf-marked _ _ _ e
         ]),
-        total-count (λ p. hit? runs (slot p)) n (λ p. at marks (slot p)) (λ p l. h .zero-or-one (slot p)) (λ p l. h .outside (slot p)),
+        total-count (λ p. hit? (h .runs) (y .slot w p)) (y .n) (mark w) (λ p l. h .zero-or-one w p k l) (λ p l. h .outside w p k l),
+        runs depth gap (y .n) (y .r) (y .slot w) (spaced w) (near w) (h .runs) (h .apart),
       )
 
 -- ---- frames
 
--- slots i·J + w hold word w of a frame, and of frames one after the other a word of a later one where w is J or more
-frame-run-count : (f : Framing) (start size t w : ℕ) → size ≤ f .depth * t → count (λ i. hit? ((start, size) ∷ []) (i * f .depth + w)) (f .n) ≤ t
-frame-run-count f start size t w short =
-    omega (
-      arith,
-      count-mono (λ i. hit? ((start, size) ∷ []) (i * f .depth + w)) (λ i. in? start (f .depth * t) (i * f .depth + w)) (f .n) (λ i u. ⊎-elim (λ h. (h .0, omega (arith, h .1))) (λ h. absurd h)),
-      run (f .depth) (f .n) t start (λ i. i * f .depth + w) (block-spaced (f .depth) (f .n) w),
-    )
-
-word-run-within : (f : Framing) (start size : ℕ) (sent slots marks : List ℕ) → size ≤ f .depth * half (f .r)
-    → Struck ((start, size) ∷ []) sent slots marks → (w : ℕ) → Within (f .r) (frameWord f marks w) (frameWord f slots w) (frameWord f sent w)
-word-run-within f start size sent slots marks short h w =
-    struck-within (f .n) (f .r) (λ i. i * f .depth + w) ((start, size) ∷ []) sent slots marks h (frame-run-count f start size (half (f .r)) w short)
-
 pub frame-run-within : FrameRunWithin
-frame-run-within f start size sent slots marks short h w l = word-run-within f start size sent slots marks short h w
+frame-run-within f = run-within (inFrame f) (f .depth) _ (block-spaced (f .depth) (f .n)) (block-near (f .depth) (f .n))
 
--- word w of frame i
-word-of : (f : Framing) (slots : List ℕ) (i w : ℕ) → w < f .depth → frameWord f (frameAt f slots i) w ≡ frameWord f slots (i * slotCount f + w)
-word-of f slots i w l = tabulate-same (f .n) _ _ λ p u.
-    getD-tabulate (slotCount f) _ (p * f .depth + w) 0 (in-block p w (f .depth) (f .n) u l) ∙ ap (at slots) (omega arith)
+pub frame-marked-runs-within : FrameMarkedRunsWithin
+frame-marked-runs-within f = marked-within (inFrame f) (f .depth) _ (block-spaced (f .depth) (f .n)) (block-near (f .depth) (f .n))
 
-pub frames-run-within : FramesRunWithin
-frames-run-within f start size i sent slots marks short h w l =
-    rw (word-of f marks i w l, word-of f slots i w l, word-of f sent i w l) (word-run-within f start size sent slots marks short h (i * slotCount f + w))
+-- one run in frames that come one after the other leaves every word of frame i within the bound, also where it crosses a border
+module _ (f : Framing) (many i : ℕ) (before : i < many) where
+  -- word w of frame i
+  word-of : (slots : List ℕ) (w : ℕ) → w < f .depth → wordOf (inFrames f many) slots (i * f .depth + w) ≡ wordOf (inFrame f) (frameAt f slots i) w
+  word-of slots w l = tabulate-same (f .n) _ _ λ p u.
+      rw (high i w l, low i w l) (ap (at slots) (omega arith) ∙ sym (getD-tabulate (slotCount f) _ (p * f .depth + w) 0 (in-block p w (f .depth) (f .n) u l)))
 
-pub frame-marked-run-within : FrameMarkedRunWithin
-frame-marked-run-within f start size sent slots marks short h w l =
-    marked-within (f .n) (f .r) (λ i. i * f .depth + w) ((start, size) ∷ []) sent slots marks h (frame-run-count f start size (f .r) w short)
+  pub frames-run-within : (sent slots marks : List ℕ) → OneRun (f .depth) (inFrames f many) sent slots marks → AllWithin (inFrame f) (frameAt f sent i) (frameAt f slots i) (frameAt f marks i)
+  frames-run-within sent slots marks h w l =
+      rw (← word-of sent w l, ← word-of slots w l, ← word-of marks w l)
+      (run-within (inFrames f many) (f .depth) _ (λ v. block-spaced (f .depth) (f .n) _) (λ v. block-near (f .depth) (f .n) _) sent slots marks h (i * f .depth + w) (in-block i w (f .depth) many before l))
 
 -- ---- delay lines
 
-line-runs-count : (l : LineSetting) → LineAllowed l → (t w : ℕ) (rs : List (ℕ × ℕ)) → Clear (l .branches * t) (l .n + delay l) rs
-    → count (λ p. hit? rs (slotOf (l .branches) (l .unit) (l .n) w p)) (l .n) ≤ t
-line-runs-count l ok t w rs clear =
-    let some : 0 < l .branches = omega (arith, ok .branches .0) in
-    let whole = dvd-of-mod-eq-zero (l .branches) (ok .whole) in
-    runs (l .branches) (l .n + delay l) (l .n) t (slotOf (l .branches) (l .unit) (l .n) w)
-    (line-spaced (l .branches) (l .unit) (l .n) w some whole (ok .room)) (line-near (l .branches) (l .unit) (l .n) w some whole (ok .room)) rs clear
-
 pub line-runs-within : LineRunsWithin
-unfolding slotOf
-line-runs-within l ok many rs sent slots marks clear h w _ =
-    struck-within (l .n) (l .r) (slotOf (l .branches) (l .unit) (l .n) w) rs sent slots marks h (line-runs-count l ok (half (l .r)) w rs clear)
+line-runs-within l ok many = runs-within (onLine l many) (l .branches) _ (line-spaced l ok) (line-near l ok)
 
 pub line-run-within : LineRunWithin
-line-run-within l ok many start size sent slots marks short h = line-runs-within l ok many ((start, size) ∷ []) sent slots marks (short, tt, tt) h
+line-run-within l ok many = run-within (onLine l many) (l .branches) _ (line-spaced l ok) (line-near l ok)
 
 pub line-marked-runs-within : LineMarkedRunsWithin
-unfolding slotOf
-line-marked-runs-within l ok many rs sent slots marks clear h w _ =
-    marked-within (l .n) (l .r) (slotOf (l .branches) (l .unit) (l .n) w) rs sent slots marks h (line-runs-count l ok (l .r) w rs clear)
+line-marked-runs-within l ok many = marked-within (onLine l many) (l .branches) _ (line-spaced l ok) (line-near l ok)

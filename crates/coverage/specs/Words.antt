@@ -47,16 +47,16 @@ module _ (s : Setting) (ok : T (allowed s)) where
 
 -- ---- a codeword and what came of it
 
-pub record Came (s : Setting) (marks came sent : List ℕ) : Type 0 where
+pub record Came (s : Setting) (sent came marks : List ℕ) : Type 0 where
   pub code : T (isCodeword s sent)
-  pub near : Within (s .r) marks came sent
+  pub near : Within (s .r) sent came marks
   pub size : length came ≡ s .n
   pub marks-size : length marks ≡ s .n
   pub bytes : T (below (2 ^ s .m) came)
   pub zero-or-one : T (below 2 marks)
 
 module _ (s : Setting) (ok : T (allowed s)) (marks came : List ℕ) where
-  module _ (sent : List ℕ) (c : Came s marks came sent) where
+  module _ (sent : List ℕ) (c : Came s sent came marks) where
     sent-near : T (qualifies s marks came sent)
     sent-near = is-near s marks came sent (record { code = codeword s sent (c .code); bound = c .near })
 
@@ -88,5 +88,5 @@ module _ (s : Setting) (ok : T (allowed s)) (marks came : List ℕ) where
         (ap numberOf x, y)
 
   -- two codewords that may both come so are one
-  pub word-once : (c d : List ℕ) → Came s marks came c → Came s marks came d → c ≡ d
+  pub word-once : (c d : List ℕ) → Came s c came marks → Came s d came marks → c ≡ d
   word-once c d p q = qualifies-once s ok marks came (p .size) c d (sent-near c p) (sent-near d q)

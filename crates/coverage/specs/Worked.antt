@@ -12,12 +12,13 @@ use Rattle.algebra.specs.Lists.{tabulate}
 use Rattle.word.specs.Word.{errorOf, errors, marked}
 use Rattle.frame.specs.FrameExample.{example, slotsOut, slotsIn, sent-example}
 use Rattle.frame.specs.declared.setting.Sent.the-variants.{Done}
-use Rattle.coverage.specs.Frame.{Frame, FrameWithin, Arrives}
+use Rattle.coverage.specs.Channel.{AllWithin}
+use Rattle.coverage.specs.Frame.{inFrame, Frame, Arrives}
 
 abbrev frame : Frame
 frame = record { slots = slotsIn; marks = replicate 10 0 }
 
-one-each : FrameWithin example (frame .marks) (frame .slots) slotsOut
+one-each : AllWithin (inFrame example) slotsOut (frame .slots) (frame .marks)
 unfolding errors marked errorOf total tabulate
 one-each zero h = lit≤ tt
 one-each (suc zero) h = lit≤ tt
@@ -26,9 +27,8 @@ one-each (suc (suc w)) h = absurd (omega arith)
 pub example-arrives : Arrives example (record { payload = 65 ∷ []; sequence = 258 }) frame
 unfolding below
 example-arrives = record {
-  fits = record { short = lit≤ tt; bytes = tt; number = lit≤ tt };
-  slots = slotsOut;
-  sending = record { lent = replicate 10 0; lent-size = refl; answer = Done; promise = sym sent-example };
+  sent = slotsOut;
+  sending = record { fits = record { short = lit≤ tt; bytes = tt; number = lit≤ tt }; lent = replicate 10 0; lent-size = refl; answer = Done; promise = sym sent-example };
   channel = record { slots-size = refl; marks-size = refl; bytes = tt; zero-or-one = tt };
   within = one-each;
 }

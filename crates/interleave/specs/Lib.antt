@@ -4,5 +4,3 @@ pub mod Setting
 pub mod Steps
 pub mod Promises
 pub mod Calls
-pub mod Runs
-pub mod Damage

@@ -1,10 +1,10 @@
 -- Runs of damaged slots, and how many places of one word they hold (document 01, Block interleaver and frame, Delay line).
 -- Assumes nothing.
-use mathlib.Core.Path.{_≡_, sym, ap, ap₂, _∙_}
+use mathlib.Core.Path.{_≡_, sym}
 use mathlib.Core.List.{List, [], _∷_}
 use mathlib.Core.Logic.{_⊎_, inl, inr, _≢_, ⊎-elim, Dec·and}
-use Prim.Native.Nat.{ℕ, zero, suc, _+_, _-_, _*_, _/_, _%_, _≤_, _<_, _∣_}
-use native.Mathlib.Nat.{mul-le-mul-right, mul-suc, suc-mul, mul-zero, add-mul, mod-lt, div-lt-iff-lt-mul, div-mul-cancel, div-add-mod'}
+use Prim.Native.Nat.{ℕ, zero, suc, _+_, _*_, _≤_, _<_}
+use native.Mathlib.Nat.{mul-suc, mul-zero}
 use native.Mathlib.Decide.{ℕ-discrete, decLt, decLe}
 use native.Mathlib.Omega.{arith}
 use Rattle.algebra.specs.Sets.{count, count-or, count-mono, count-pos, count-once, count-none, either}
@@ -13,7 +13,7 @@ use Rattle.algebra.specs.Sets.{count, count-or, count-mono, count-pos, count-on
 abbrev pub In : ℕ → ℕ → ℕ → Type 0
 In a k s = (a ≤ s) × (s < a + k)
 
-pub in? : (a k s : ℕ) → Dec (In a k s)
+in? : (a k s : ℕ) → Dec (In a k s)
 in? a k s = Dec·and (decLe a s) (decLt s (a + k))
 
 -- slot s is in one of the runs, each a first slot and a length
@@ -39,9 +39,9 @@ Clear L G (r ∷ rs) = (r .1 ≤ L) × From (r .0 + r .1 + G) rs × Clear L G rs
 abbrev pub Spaced : ℕ → ℕ → (ℕ → ℕ) → Type 0
 Spaced D n slot = (p q : ℕ) → p < n → q < n → p ≢ q → slot p ≤ slot q → slot p + D ≤ slot q
 
--- all places of a word travel in slots less than G apart
+-- all places of a word travel in slots at most G apart
 abbrev pub Near : ℕ → ℕ → (ℕ → ℕ) → Type 0
-Near G n slot = (p q : ℕ) → p < n → q < n → slot q < slot p + G
+Near G n slot = (p q : ℕ) → p < n → q < n → slot q ≤ slot p + G
 
 -- ---- one run
 
@@ -55,7 +55,7 @@ once D n a slot f i j h k u v = elim (ℕ-discrete i j) [
 ]
 
 -- A run of D * t slots holds at most t places of a word whose slots are D apart.
-pub run : (D n t a : ℕ) (slot : ℕ → ℕ) → Spaced D n slot → count (λ p. in? a (D * t) (slot p)) n ≤ t
+run : (D n t a : ℕ) (slot : ℕ → ℕ) → Spaced D n slot → count (λ p. in? a (D * t) (slot p)) n ≤ t
 run D n zero a slot f = omega (arith, count-none (λ p. in? a (D * 0) (slot p)) n λ p h i. omega (arith, mul-zero D, i .0, i .1))
 run D n (suc t) a slot f =
     omega (
@@ -96,62 +96,3 @@ runs D G n t slot f g (r ∷ rs) c = elim (decLt 0 (count (λ p. in? (r .0) (r .
         runs D G n t slot f g rs (c .2),
       )
 ]
-
--- ---- the block frame: byte i of word w travels in slot i * J + w
-
-pub block-spaced : (J n w : ℕ) → Spaced J n (λ i. i * J + w)
-block-spaced J n w p q h k e l = elim (decLt p q) [
-  | yes u ↦ omega (arith, mul-le-mul-right J u, suc-mul p J)
-  | no u ↦ let v : suc q ≤ p = omega arith in omega (arith, mul-le-mul-right J v, suc-mul q J)
-]
-
--- ---- the delay line: place p of word W, the words put in end to end from step 0, leaves the sender at this step
-
-unfoldable pub slotOf : ℕ → ℕ → ℕ → ℕ → ℕ → ℕ
-slotOf I M n W p = W * n + p + p % I * M * I
-
-module _ (I M n W : ℕ) (some : 0 < I) (whole : I ∣ n) (room : n ≤ M * I) where
-  -- a later branch leaves at least I slots later, since n ≤ M * I and I divides n
-  later-branch : (p q : ℕ) → p < n → p % I < q % I → slotOf I M n W p + I ≤ slotOf I M n W q
-  unfolding slotOf
-  later-branch p q h l =
-      let b : p < n / I * I = omega (arith, div-mul-cancel I whole) in
-      let a : p / I < n / I = div-lt-iff-lt-mul some .1 b in
-      omega (
-        arith,
-        div-add-mod' p I,
-        div-add-mod' q I,
-        mul-le-mul-right I a,
-        suc-mul (p / I) I,
-        div-mul-cancel I whole,
-        mul-le-mul-right I (mul-le-mul-right M l),
-        ap (λ (z : ℕ). z * I) (suc-mul (p % I) M),
-        add-mul (p % I * M) M I,
-      )
-
-  -- and so does a later place on the same branch
-  same-branch : (p q : ℕ) → p % I ≡ q % I → p / I < q / I → slotOf I M n W p + I ≤ slotOf I M n W q
-  unfolding slotOf
-  same-branch p q e l =
-      omega (arith, div-add-mod' p I, div-add-mod' q I, mul-le-mul-right I l, suc-mul (p / I) I, ap (λ (z : ℕ). z * M * I) e)
-
-  pub line-spaced : Spaced I n (slotOf I M n W)
-  line-spaced p q h k e l = elim (decLt (p % I) (q % I)) [
-    | yes u ↦ later-branch p q h u
-    | no u ↦ elim (decLt (q % I) (p % I)) [
-      | yes v ↦ absurd (omega (arith, later-branch q p k v))
-      | no v ↦ elim (decLt (p / I) (q / I)) [
-        | yes w ↦ same-branch p q (omega arith) w
-        | no w ↦ elim (decLt (q / I) (p / I)) [
-          | yes x ↦ absurd (omega (arith, same-branch q p (omega arith) x))
-          | no x ↦ absurd (e (sym (div-add-mod' p I) ∙ ap₂ (λ (y z : ℕ). y * I + z) (omega arith) (omega arith) ∙ div-add-mod' q I))
-        ]
-      ]
-    ]
-  ]
-
-  pub line-near : Near (n + (I - 1) * M * I) n (slotOf I M n W)
-  unfolding slotOf
-  line-near p q h k =
-      let j : q % I ≤ I - 1 = omega (arith, mod-lt q some) in
-      omega (arith, mul-le-mul-right I (mul-le-mul-right M j))
