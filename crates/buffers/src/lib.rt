@@ -72,3 +72,10 @@ pub fn join(first: &[u8], second: &[u8], target: &mut [u8])
         i += 1;
     }
 }
+
+// Work space for one word, filled with zeros. A call of its own keeps the array out of its callers' proofs.
+pub fn work_space() -> [u8; 255]
+    ensures { λ r. ⌜ length r ≡ 255 ⌝ }
+{
+    [0; 255]
+}

@@ -4,6 +4,7 @@ mod block;
 pub mod line;
 mod receiver;
 mod sender;
+pub mod slots;
 
 // The block interleaver.
 pub use block::gather;
