@@ -2,7 +2,7 @@
 -- slots held, and the decoder does the rest (document 01, Delay line).
 -- Assumes nothing.
 use mathlib.Core.Path.{_≡_, refl, sym, ap, _∙_}
-use mathlib.Core.List.{List, [], flatten}
+use mathlib.Core.List.{List, [], flatten, append-nil}
 use Prim.Native.Nat.{ℕ, _+_, _-_, _*_, _%_, _≤_, _<_}
 use native.Mathlib.Nat.{suc-mul, mul-le-mul-right, mod-lt}
 use native.Mathlib.Omega.{arith}
@@ -17,11 +17,12 @@ use Rattle.word.specs.Codeword.{isCodeword, codeword}
 use Rattle.rings.specs.Marks.{Marks, marks-same}
 use Rattle.interleave.specs.Line.{sent, received, reachable}
 use Rattle.interleave.specs.Setting.{memorySize, lineAt, receiverRefusal, runRefusal, Fine, line-done, receiver-done, run-done}
-use Rattle.interleave.specs.Steps.{blank}
+use Rattle.interleave.specs.Steps.{blank, Sending, sendSteps}
+use Rattle.interleave.specs.Promises.{SendRun}
 use Rattle.interleave.specs.Calls.{sends-run, receives-run}
 use Rattle.interleave.specs.declared.line.Ready.{Ready}
 use Rattle.coverage.specs.Channel.{Channel, wordOf}
-use Rattle.coverage.specs.Line.{LineSetting, codeOf, LineAllowed, delay, WordSent, fed, LineSent, slotOf, onLine, LineArrives, LineReceived, leaving}
+use Rattle.coverage.specs.Line.{LineSetting, codeOf, LineAllowed, delay, WordSent, fed, SenderCalls, LineSent, slotOf, onLine, LineArrives, LineReceived, leaving}
 use Rattle.coverage.specs.Coverage.{LineComesBack, NoTwoLinesAlike}
 use Rattle.coverage.specs.Each.{each-length, each-entry}
 use Rattle.coverage.specs.EndToEnd.{Sized, flatten-length, flatten-at}
@@ -57,6 +58,22 @@ module _ (l : LineSetting) (ok : LineAllowed l) where
       let memory : s .memory ≡ blank I M 0 = rw (line-done _ _ (fresh (length (s .lent)) (s .lent-size))) at (s .fresh .memory) in
       sender-calls (rw (line, memory) at (s .calls)) blank-fine
       ∙ (rw (line-done _ _ blank-fine) at (sends-run I M n (ok .line) bytes _ _ _ (record { answer = refl; memory = refl; bytes = refl }) .1))
+
+  -- and there is a sender that gives these
+  pub line-sent : (bytes : List ℕ) → LineSent l bytes (tabulate (length bytes) (sent I M (at bytes)))
+  line-sent bytes =
+      let none = line-done (lineAt I M n 0) (length (blank I M 0)) blank-fine in
+      let a : Sending = sendSteps (lineAt I M n 0) (blank I M 0) bytes in
+      let run : SendRun (lineAt I M n 0) (blank I M 0) bytes (record { answer = 0; line = a .line }) (a .memory) (a .bytes) = record { answer = rw none; memory = rw none; bytes = rw none } in
+      let own : LineSent l bytes (a .bytes) = record {
+        lent = blank I M 0;
+        lent-size = length-replicate (memorySize I M) 0;
+        ready = record { answer = 0; line = lineAt I M n 0 };
+        memory = blank I M 0;
+        fresh = record { answer = rw none; memory = rw none };
+        calls = rw (append-nil bytes, append-nil (a .bytes)) at (SenderCalls.run run SenderCalls.none);
+      } in
+      rw (slots-sent bytes (a .bytes) own) at own
 
   module _ (slots marks : List ℕ) (size : ℕ) (c : Channel size slots marks) (bytes flags : List ℕ) (r : LineReceived l slots marks bytes flags) where
     marks-few : Marks marks

@@ -1,19 +1,37 @@
--- The demand is not empty: the frame of the bench reader's example (document 01, Worked table), whose slots 2 and 3 were 65 and 2, is one that it
--- speaks of, with one wrong symbol in each word.
+-- The demand is not empty: here are a frame and a delay line that it speaks of.
 -- Assumes nothing.
-use mathlib.Core.Path.{refl, sym}
-use mathlib.Core.List.{[], _∷_}
-use Prim.Native.Nat.{zero, suc}
+use mathlib.Core.Path.{_≡_, refl, sym}
+use mathlib.Core.Bool.{Bool, true, false, _&&_, _||_}
+use mathlib.Core.Logic.{inl}
+use mathlib.Core.List.{List, [], _∷_, flatten}
+use Prim.Native.Nat.{ℕ, zero, suc}
 use native.Mathlib.Omega.{arith}
-use lib.Dec.{lit≤}
-use lib.ListN.{replicate}
-use Rattle.algebra.specs.Tests.{total, below}
+use lib.Dec.{T, lit≤, eqb, eqb→eq, leb, ltb, leb→le, ltb→lt}
+use lib.ListN.{length, replicate}
+use Rattle.algebra.specs.Xor.{_⊕_}
+use Rattle.algebra.specs.Tests.{at, total, each, each-at, below, first, second, passed}
 use Rattle.algebra.specs.Lists.{tabulate}
-use Rattle.word.specs.Word.{errorOf, errors, marked}
+use Rattle.field.specs.Field.{times, reduce, product, power}
+use Rattle.field.specs.Answers.{isField}
+use Rattle.word.specs.Setting.{allowed}
+use Rattle.word.specs.Word.{valueFrom, errorOf, errors, marked}
+use Rattle.word.specs.Codeword.{isCodeword}
+use Rattle.word.specs.Code.{encoded}
+use Rattle.word.specs.Code.Laws.{encoded-only}
+use Rattle.word.specs.Answers.Laws.{encode-done}
+use Rattle.word.specs.declared.Encoded.the-variants as E
+use Rattle.rings.specs.Delay.{answer, memory, position, lineOut, lineKept}
+use Rattle.rings.specs.Rings.{ring, tri}
+use Rattle.interleave.specs.Line.{period, common}
 use Rattle.frame.specs.FrameExample.{example, slotsOut, slotsIn, sent-example}
 use Rattle.frame.specs.declared.setting.Sent.the-variants.{Done}
-use Rattle.coverage.specs.Channel.{AllWithin}
+use Rattle.coverage.specs.Channel.{Layout, OnWords, AllWithin, OneRun}
 use Rattle.coverage.specs.Frame.{inFrame, Frame, Arrives}
+use Rattle.coverage.specs.Line.{LineSetting, codeOf, LineAllowed, WordSent, fed, LineSent, slotOf, onLine, LineArrives}
+use Rattle.coverage.specs.RunsCovered.{line-run-within}
+use Rattle.coverage.specs.LineBack.{line-sent}
+
+-- ---- the frame of the bench reader's example (document 01, Worked table), whose slots 2 and 3 were 65 and 2: one wrong symbol in each word
 
 abbrev frame : Frame
 frame = record { slots = slotsIn; marks = replicate 10 0 }
@@ -24,11 +42,102 @@ one-each zero h = lit≤ tt
 one-each (suc zero) h = lit≤ tt
 one-each (suc (suc w)) h = absurd (omega arith)
 
-pub example-arrives : Arrives example (record { payload = 65 ∷ []; sequence = 258 }) frame
+pub frame-arrives : Arrives example (record { payload = 65 ∷ []; sequence = 258 }) frame
 unfolding below
-example-arrives = record {
+frame-arrives = record {
   sent = slotsOut;
-  sending = record { fits = record { short = lit≤ tt; bytes = tt; number = lit≤ tt }; lent = replicate 10 0; lent-size = refl; answer = Done; promise = sym sent-example };
+  sending = record {
+    fits = record { short = lit≤ tt; bytes = tt; number = lit≤ tt };
+    lent = replicate 10 0;
+    lent-size = refl;
+    answer = Done;
+    promise = sym sent-example;
+  };
   channel = record { slots-size = refl; marks-size = refl; bytes = tt; zero-or-one = tt };
   within = one-each;
+}
+
+-- ---- a line of I = 2 and M = 2 with two words of n = 4 and r = 2: a run of I·t = 2 slots strikes both words, and the four slots that carry
+-- none, two before the first byte of branch 1 and two after the last of branch 0, hold something else and are marked
+
+abbrev line : LineSetting
+line = record { branches = 2; unit = 2; n = 4; r = 2; b = 0 }
+
+pub line-allowed : LineAllowed line
+unfolding allowed isField
+line-allowed = record {
+  line = record { branches = (lit≤ tt, lit≤ tt); unit = (lit≤ tt, lit≤ tt); size = (lit≤ tt, lit≤ tt); whole = refl; room = lit≤ tt };
+  code = tt;
+}
+
+abbrev messages : List (List ℕ)
+messages = (1 ∷ 2 ∷ []) ∷ (3 ∷ 4 ∷ []) ∷ []
+
+abbrev words : List (List ℕ)
+words = (1 ∷ 2 ∷ 1 ∷ 2 ∷ []) ∷ (3 ∷ 4 ∷ 5 ∷ 2 ∷ []) ∷ []
+
+abbrev sent : List ℕ
+sent = 1 ∷ 0 ∷ 1 ∷ 0 ∷ 3 ∷ 2 ∷ 5 ∷ 2 ∷ 0 ∷ 4 ∷ 0 ∷ 2 ∷ []
+
+abbrev slots : List ℕ
+slots = 1 ∷ 9 ∷ 1 ∷ 9 ∷ 0 ∷ 0 ∷ 5 ∷ 2 ∷ 9 ∷ 4 ∷ 9 ∷ 2 ∷ []
+
+abbrev marks : List ℕ
+marks = 0 ∷ 1 ∷ 0 ∷ 1 ∷ 0 ∷ 0 ∷ 0 ∷ 0 ∷ 1 ∷ 0 ∷ 1 ∷ 0 ∷ []
+
+encoded-0 : encoded (codeOf line) (1 ∷ 2 ∷ []) ≡ 1 ∷ 2 ∷ 1 ∷ 2 ∷ []
+unfolding below isCodeword each valueFrom _⊕_ times reduce product power
+encoded-0 = encoded-only (codeOf line) (line-allowed .code) (1 ∷ 2 ∷ []) refl (1 ∷ 2 ∷ []) tt
+
+encoded-1 : encoded (codeOf line) (3 ∷ 4 ∷ []) ≡ 3 ∷ 4 ∷ 5 ∷ 2 ∷ []
+unfolding below isCodeword each valueFrom _⊕_ times reduce product power
+encoded-1 = encoded-only (codeOf line) (line-allowed .code) (3 ∷ 4 ∷ []) refl (5 ∷ 2 ∷ []) tt
+
+word-sent : (message word : List ℕ) → length message ≡ 2 → T (below 256 message) → encoded (codeOf line) message ≡ word → WordSent line message word
+word-sent message word size bytes e = record {
+  size = size;
+  bytes = bytes;
+  lent = replicate 4 0;
+  lent-size = refl;
+  answer = E.Done;
+  promise = encode-done (codeOf line) message (replicate 4 0) (passed _ (line-allowed .code)) size refl (passed _ bytes) word e;
+}
+
+sending : LineSent line (fed line words) sent
+unfolding flatten answer memory position lineOut lineKept ring tri period common tabulate
+sending = line-sent line line-allowed (fed line words)
+
+-- what passes a test in every slot of the words
+on-words : (y : Layout) (b : ℕ → Bool) → T (each (y .words) λ w. each (y .n) λ p. b (y .slot w p)) → OnWords y λ s. T (b s)
+on-words y b t w p h l = each-at (y .n) (λ p. b (y .slot w p)) (each-at (y .words) (λ w. each (y .n) λ p. b (y .slot w p)) t w h) p l
+
+unless : (a b : Bool) → T (a || b) → ¬ T a → T b
+unless true b t out = absurd (out tt)
+unless false b t out = t
+
+pub line-run : OneRun 2 (onLine line 2) sent slots marks
+unfolding each slotOf
+line-run = record {
+  start = 4;
+  size = 2;
+  short = lit≤ tt;
+  alone = record {
+    unmarked = λ w p h l. eqb→eq _ _ (on-words (onLine line 2) (λ s. eqb (at marks s) 0) tt w p h l);
+    clean = λ w p h l out.
+        let s : ℕ = slotOf line w p in
+        let struck : Bool = leb 4 s && ltb s 6 in
+        eqb→eq _ _ (unless struck (eqb (at slots s) (at sent s)) (on-words (onLine line 2) (λ s. (leb 4 s && ltb s 6) || eqb (at slots s) (at sent s)) tt w p h l)
+        λ t. out (inl (leb→le 4 s (first (leb 4 s) (ltb s 6) t), ltb→lt s 6 (second (leb 4 s) (ltb s 6) t))));
+  };
+}
+
+pub line-arrives : LineArrives line messages slots marks
+unfolding below flatten
+line-arrives = record {
+  words = words;
+  encoding = (word-sent _ _ refl tt encoded-0, (word-sent _ _ refl tt encoded-1, tt));
+  sent = sent;
+  sending = sending;
+  channel = record { slots-size = refl; marks-size = refl; bytes = tt; zero-or-one = tt };
+  within = line-run-within line line-allowed 2 sent slots marks line-run;
 }
