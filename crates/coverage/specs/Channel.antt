@@ -75,3 +75,7 @@ pub record MarkedRuns (depth gap : ℕ) (y : Layout) (sent slots marks : List �
   pub zero-or-one : OnWords y λ s. at marks s ≤ 1
   pub outside : OnWords y λ s. ¬ Hit runs s → at marks s ≡ 0
   pub clean : OnWords y λ s. at marks s ≡ 0 → at slots s ≡ at sent s
+
+-- such damage leaves every word within the bound
+abbrev pub Covered : Layout → (Layout → (sent slots marks : List ℕ) → Type 0) → Type 0
+Covered y Damage = (sent slots marks : List ℕ) → Damage y sent slots marks → AllWithin y sent slots marks

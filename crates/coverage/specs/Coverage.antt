@@ -9,7 +9,7 @@ use lib.Dec.{T}
 use Rattle.frame.specs.Frame.{allowedFrame}
 use Rattle.frame.specs.declared.setting.Framing.{Framing}
 use Rattle.coverage.specs.Each.{Each}
-use Rattle.coverage.specs.Channel.{AllWithin, OneRun, SomeRuns, MarkedRuns}
+use Rattle.coverage.specs.Channel.{Covered, OneRun, SomeRuns, MarkedRuns}
 use Rattle.coverage.specs.Frame.{Message, Frame, inFrame, Arrives, StreamArrives, framesOf, Answer, Answers, ComesBack}
 use Rattle.coverage.specs.Line.{LineSetting, LineAllowed, delay, onLine, LineArrives, LineReceived, leaving, WordComesBack}
 
@@ -31,7 +31,7 @@ LineComesBack =
 -- ---- One unmarked run of up to depth · t slots, alone, is within it wherever it falls: in a frame, ..
 
 abbrev pub FrameRunWithin : Type 0
-FrameRunWithin = (f : Framing) (sent slots marks : List ℕ) → OneRun (f .depth) (inFrame f) sent slots marks → AllWithin (inFrame f) sent slots marks
+FrameRunWithin = (f : Framing) → Covered (inFrame f) (OneRun (f .depth))
 
 -- .. among frames that come one after the other, so also across the border of two: each of them comes back; ..
 abbrev pub FramesRunComeBack : Type 0
@@ -41,15 +41,11 @@ FramesRunComeBack =
 
 -- .. and on a line.
 abbrev pub LineRunWithin : Type 0
-LineRunWithin =
-    (l : LineSetting) → LineAllowed l → (many : ℕ) (sent slots marks : List ℕ)
-    → OneRun (l .branches) (onLine l many) sent slots marks → AllWithin (onLine l many) sent slots marks
+LineRunWithin = (l : LineSetting) → LineAllowed l → (many : ℕ) → Covered (onLine l many) (OneRun (l .branches))
 
 -- Several runs on a line are covered if at least n + (I - 1)·M·I clean slots lie between them.
 abbrev pub LineRunsWithin : Type 0
-LineRunsWithin =
-    (l : LineSetting) → LineAllowed l → (many : ℕ) (sent slots marks : List ℕ)
-    → SomeRuns (l .branches) (l .n + delay l) (onLine l many) sent slots marks → AllWithin (onLine l many) sent slots marks
+LineRunsWithin = (l : LineSetting) → LineAllowed l → (many : ℕ) → Covered (onLine l many) (SomeRuns (l .branches) (l .n + delay l))
 
 -- ---- So two different lists of equally many messages, sent under one setting and damaged within it, never arrive with the same slots and marks.
 
@@ -78,13 +74,10 @@ pub record Demand3 : Type 0 where
 -- ---- Beyond the demand: runs that the receiver has marked may be as long as depth · r, since a marked symbol costs half of an unmarked one.
 
 abbrev pub FrameMarkedRunsWithin : Type 0
-FrameMarkedRunsWithin =
-    (f : Framing) (sent slots marks : List ℕ) → MarkedRuns (f .depth) ((f .n - 1) * f .depth) (inFrame f) sent slots marks → AllWithin (inFrame f) sent slots marks
+FrameMarkedRunsWithin = (f : Framing) → Covered (inFrame f) (MarkedRuns (f .depth) ((f .n - 1) * f .depth))
 
 abbrev pub LineMarkedRunsWithin : Type 0
-LineMarkedRunsWithin =
-    (l : LineSetting) → LineAllowed l → (many : ℕ) (sent slots marks : List ℕ)
-    → MarkedRuns (l .branches) (l .n + delay l) (onLine l many) sent slots marks → AllWithin (onLine l many) sent slots marks
+LineMarkedRunsWithin = (l : LineSetting) → LineAllowed l → (many : ℕ) → Covered (onLine l many) (MarkedRuns (l .branches) (l .n + delay l))
 
 pub record Beyond : Type 0 where
   pub frame : FrameMarkedRunsWithin

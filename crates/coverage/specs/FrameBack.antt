@@ -3,16 +3,16 @@
 -- Assumes nothing.
 use mathlib.Core.Path.{_≡_, refl, sym, ap, ap₂, _∙_}
 use mathlib.Core.Bool.{true}
-use mathlib.Core.List.{List, [], _++_, append-assoc, flatten}
+use mathlib.Core.List.{List, _++_, append-assoc}
 use mathlib.Core.Option.{some}
 use Prim.Native.Nat.{ℕ, zero, suc, _+_, _-_, _*_, _/_, _%_, _≤_, _<_}
 use native.Mathlib.Nat.{zero-mul, suc-mul}
 use native.Mathlib.Omega.{arith}
-use lib.ListN.{length, getD, take, drop, replicate, length-drop, length-replicate}
+use lib.ListN.{length, take, drop, replicate, length-drop, length-replicate}
 use lib.Seq.{take-add, take-at, drop-at, take-all, length-take-le, getD-take, getD-drop}
 use lib.Dec.{T, ltb, lt→ltb}
 use Rattle.algebra.specs.Tests.{at, below, both, below-all, below-at, below-append, first-none, passed}
-use Rattle.algebra.specs.Lists.{tabulated, length-tabulate}
+use Rattle.algebra.specs.Lists.{length-tabulate}
 use Rattle.word.specs.Setting.{allowed, messageSize, allowed-yes}
 use Rattle.word.specs.Code.{encoded}
 use Rattle.interleave.specs.Block.{transposed}
@@ -27,12 +27,9 @@ use Rattle.frame.specs.declared.setting.Framing.{Framing}
 use Rattle.frame.specs.declared.setting.Received.{Received}
 use Rattle.frame.specs.declared.setting.Sent.the-variants as S
 use Rattle.frame.specs.declared.setting.Verdict.the-variants.{Done}
-use Rattle.coverage.specs.Channel.{Channel, wordOf}
-use Rattle.coverage.specs.Frame.{Message, Fits, FrameSent, inFrame, Frame, Arrives, StreamArrives, frameAt, framesOf, Answer, Answers, ComesBack}
-use Rattle.coverage.specs.Coverage.{FrameComesBack, FramesComeBack, FramesRunComeBack, NoTwoFramesAlike}
-use Rattle.coverage.specs.Each.{Each, each-length, each-entry, each-tabulate, each-chain, each-once}
-use Rattle.coverage.specs.EndToEnd.{Sized, flatten-at}
-use Rattle.coverage.specs.RunsCovered.{frames-run-within}
+use Rattle.coverage.specs.Channel.{wordOf}
+use Rattle.coverage.specs.Frame.{Message, Fits, FrameSent, inFrame, Frame, Arrives, Answer, Answers, ComesBack}
+use Rattle.coverage.specs.Coverage.{FrameComesBack}
 use Rattle.coverage.specs.Words.{Came, tabulate-below, word-corrected, encoded-code, encoded-size, encoded-message}
 
 -- ---- the parts of a list, joined again
@@ -105,7 +102,7 @@ module _ (f : Framing) (ok : T (allowedFrame f)) where
       slots-are : slots ≡ slotsSent f (m .payload) (m .sequence)
       slots-are = send-once f (m .payload) (m .sequence) (s .lent) (s .answer) S.Done slots _ (s .promise) (send-done f (m .payload) (m .sequence) (s .lent) (passed _ ok) (s .lent-size) (fits .short) _ refl) .1
 
-      slots-size : length slots ≡ slotCount f
+      pub slots-size : length slots ≡ slotCount f
       unfolding slotsSent transposed
       slots-size = ap length slots-are ∙ length-tabulate (slotCount f) _
 
@@ -198,7 +195,7 @@ module _ (f : Framing) (ok : T (allowedFrame f)) where
           }
 
       -- and there is one
-      some-answer : (r : Answer) × Answers f frame r
+      pub some-answer : (r : Answer) × Answers f frame r
       some-answer = (
         record { received = answer; area = area },
         record { lent = replicate (areaSize f) 0; lent-size = length-replicate (areaSize f) 0; promise = answered-so _ (length-replicate (areaSize f) 0) },
@@ -206,54 +203,3 @@ module _ (f : Framing) (ok : T (allowedFrame f)) where
 
 pub frame-comes-back : FrameComesBack
 frame-comes-back f ok m frame r a p = comes-back f ok m (a .sending .fits) frame a r p
-
-pub frames-come-back : FramesComeBack
-frames-come-back f ok = each-chain (Arrives f) (Answers f) ComesBack (frame-comes-back f ok)
-
--- ---- frames one after the other, in whose slots one run falls: each arrives within the bound
-
-module _ (f : Framing) (ok : T (allowedFrame f)) (ms : List Message) (slots marks : List ℕ) (a : StreamArrives f ms slots marks) where
-  abbrev none : Message
-  none = record { payload = []; sequence = 0 }
-
-  frame-sent : (i : ℕ) → i < length ms → FrameSent f (getD ms i none) (getD (a .sent) i [])
-  frame-sent = each-entry (FrameSent f) ms (a .sent) none [] (a .sending)
-
-  frame-size : Sized (slotCount f) (a .sent)
-  frame-size i h = let s = frame-sent i (rw (each-length (FrameSent f) ms (a .sent) (a .sending)) h) in slots-size f ok (getD ms i none) (s .fits) (getD (a .sent) i []) s
-
-  frame-back : (i : ℕ) → i < length ms → frameAt f (flatten (a .sent)) i ≡ getD (a .sent) i []
-  frame-back i h =
-      let k : i < length (a .sent) = rw (← each-length (FrameSent f) ms (a .sent) (a .sending)) h in
-      sym (tabulated (getD (a .sent) i []) (slotCount f) _ 0 (frame-size i k) λ s l. sym (flatten-at (slotCount f) (a .sent) frame-size i s k l))
-
-  frame-channel : (i : ℕ) → i < length ms → Channel (slotCount f) (frameAt f slots i) (frameAt f marks i)
-  frame-channel i h = record {
-    slots-size = length-tabulate (slotCount f) _;
-    marks-size = length-tabulate (slotCount f) _;
-    bytes = tabulate-below 256 (slotCount f) _ λ s l. below-at 256 slots (a .channel .bytes) _ (omega arith);
-    zero-or-one = tabulate-below 2 (slotCount f) _ λ s l. below-at 2 marks (a .channel .zero-or-one) _ (omega arith);
-  }
-
-  frames-arrive : Each (Arrives f) ms (framesOf f (length ms) slots marks)
-  frames-arrive = each-tabulate (Arrives f) ms none _ λ i h. record {
-    sent = getD (a .sent) i [];
-    sending = frame-sent i h;
-    channel = frame-channel i h;
-    within = rw (frame-back i h) at (frames-run-within f (length ms) i h (flatten (a .sent)) slots marks (a .run));
-  }
-
-pub frames-run-come-back : FramesRunComeBack
-frames-run-come-back f ok ms slots marks answers a = frames-come-back f ok ms _ answers (frames-arrive f ok ms slots marks a)
-
--- ---- no two alike: one answer to the frame would have to give both messages
-
-frame-once : (f : Framing) → T (allowedFrame f) → (m n : Message) (frame : Frame) → Arrives f m frame → Arrives f n frame → m ≡ n
-frame-once f ok m n frame a b =
-    let (r, p) = some-answer f ok m (a .sending .fits) frame a in
-    let x : ComesBack m r = frame-comes-back f ok m frame r a p in
-    let y : ComesBack n r = frame-comes-back f ok n frame r b p in
-    λ i. record { payload = (sym (x .payload) ∙ y .payload) i; sequence = (sym (x .sequence) ∙ y .sequence) i }
-
-pub no-two-frames-alike : NoTwoFramesAlike
-no-two-frames-alike f ok ms ns frames = each-once (Arrives f) (frame-once f ok) frames ms ns

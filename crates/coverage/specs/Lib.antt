@@ -9,6 +9,7 @@ pub mod EndToEnd
 pub mod RunsCovered
 pub mod Words
 pub mod FrameBack
+pub mod FramesBack
 pub mod LineCalls
 pub mod LineBack
 pub mod CrossBack

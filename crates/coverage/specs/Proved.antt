@@ -1,7 +1,8 @@
 -- Demand 3 holds.
 -- Assumes nothing.
 use Rattle.coverage.specs.Coverage.{Demand3, Beyond}
-use Rattle.coverage.specs.FrameBack.{frame-comes-back, frames-come-back, frames-run-come-back, no-two-frames-alike}
+use Rattle.coverage.specs.FrameBack.{frame-comes-back}
+use Rattle.coverage.specs.FramesBack.{frames-come-back, frames-run-come-back, no-two-frames-alike}
 use Rattle.coverage.specs.LineBack.{line-comes-back, no-two-lines-alike}
 use Rattle.coverage.specs.RunsCovered.{frame-run-within, line-run-within, line-runs-within, frame-marked-runs-within, line-marked-runs-within}
 
