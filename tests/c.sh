@@ -16,7 +16,7 @@ tools/archive >"$work/log" 2>&1 || { tail -n 3 "$work/log"; echo "the calls for 
 # Every call of the header is in the archive, and the archive has no other.
 kit=$(dirname "$(dirname "$(rt doc)")")/on/$(uname -m)/toolchain
 sed -n 's/.*\b\(yaxo_[a-z_]*\)(.*/\1/p' include/yaxopetzo.h | sort -u >"$work/told"
-sed -n 's/^pub extern "C" fn \(yaxo_[a-z_]*\)(.*/\1/p' crates/radio_*/src/*.rt | sort -u >"$work/there"
+sed -n 's/^pub extern "C" fn \(yaxo_[a-z_]*\)(.*/\1/p' crates/radio/src/*.rt | sort -u >"$work/there"
 diff "$work/told" "$work/there" || { echo "the header's calls are not the library's"; status=1; }
 
 # The archive is for x86-64. On another machine the kit's clang compiles for x86-64 with this machine's headers, the kit's linker links with
