@@ -19,7 +19,7 @@ use Rattle.frame.specs.declared.setting.Verdict.{Verdict}
 use Rattle.frame.specs.declared.setting.Verdict.the-variants.{Done, BadSetting, BadLength, BadMark, BeyondReach, BadTrailer}
 use Rattle.frame.specs.Sending.{send-once}
 use Rattle.frame.specs.Receiving.{receive-once}
-use Rattle.word.specs.Shown.{Shows, shown-once}
+use Rattle.radio.specs.Shown.{Shows, shown-once}
 use Rattle.radio.specs.declared.frames.FrameSetting.{FrameSetting}
 use Rattle.radio.specs.declared.frames.FrameAnswer.{FrameAnswer}
 

@@ -1,5 +1,6 @@
+pub mod Shown
 pub mod Words
-pub mod DelayLine
+pub mod Lines
 pub mod Frames
 pub mod Records
-pub mod Receiver
+pub mod Hearing

@@ -9,10 +9,12 @@ use native.Mathlib.Decide.{ℕ-discrete}
 use borrow.Author.Tests.{ne-eqb}
 use lib.Dec.{eqb}
 use Rattle.algebra.specs.Tests.{if_then_else_}
-use Rattle.record.specs.Record.{freshRecord, standing, noted}
+use Rattle.record.specs.Record.{freshRecord, standing}
+use Rattle.record.specs.Promises.{Notes, notes-once}
 use Rattle.record.specs.declared.Record.{Record}
 use Rattle.record.specs.declared.Kind.{Kind}
 use Rattle.record.specs.declared.Kind.the-variants.{Newer, Repeat, Older}
+use Rattle.radio.specs.Shown.{Shows, shown-once}
 use Rattle.radio.specs.declared.records.LentRecord.{LentRecord}
 
 -- any byte but 0 says that a frame was accepted
@@ -88,6 +90,6 @@ pub standing-record-once : (accepted last new r q : ℕ) → r ≡ kindNumber (s
 standing-record-once accepted last new r q p u = cc
 
 -- of `yaxo_record_note`'s answer, and of the record that `yaxo_record_note_in` leaves
-pub note-record-once : (h : LentRecord) (answer new : ℕ) (r q : LentRecord) → r ≡ recordSeen h (noted (recordOf h) answer new)
-    → q ≡ recordSeen h (noted (recordOf h) answer new) → r ≡ q
-note-record-once h answer new r q p u = cc
+pub note-record-once : (h : LentRecord) (answer new : ℕ) (r q : LentRecord) → Shows (recordSeen h) (Notes (recordOf h) answer new) r
+    → Shows (recordSeen h) (Notes (recordOf h) answer new) q → r ≡ q
+note-record-once h answer new r q p u = shown-once _ _ _ _ r q p u refl (notes-once (recordOf h) answer new (p .inner) (u .inner) (p .promised) (u .promised))

@@ -9,7 +9,7 @@ use Rattle.word.specs.Answers.{numberOf, figuresOf, encodedNumber, outcome, enc
 use Rattle.word.specs.Answers.Laws.{encode-once, decode-once, decode-part-once}
 use Rattle.word.specs.declared.Setting.{Setting}
 use Rattle.word.specs.declared.Decoded.{Decoded}
-use Rattle.word.specs.Shown.{Shows, shown-once}
+use Rattle.radio.specs.Shown.{Shows, shown-once}
 use Rattle.radio.specs.declared.words.CodeSetting.{CodeSetting}
 use Rattle.radio.specs.declared.words.WordAnswer.{WordAnswer}
 

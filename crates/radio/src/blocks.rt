@@ -1,4 +1,4 @@
-// The block interleaver for C.
+// The block interleaver for C: its answers go across as they are.
 ghost use Rattle.interleave.specs.Block.{Spread, Gather};
 use interleave::gather;
 use interleave::spread;

@@ -1,5 +1,4 @@
-// The cross line for C. Each call is that of `cross`, whose answers go across as they are. The header for C is include/yaxopetzo.h.
-// No call asks anything of its caller but that a pointer and its length are those of a buffer.
+// The cross line for C: its answers go across as they are.
 ghost use Rattle.cross.specs.Promises.{FreshSender, FreshReceiver, Send, Receive};
 use cross::Ready;
 use cross::Received;

@@ -1,9 +1,7 @@
-// Frames for C: the setting, what receiving answers, and the calls. Each call hands its input to the call below it and shows the answer. The
-// payload goes back as its place in the lent area: a reference cannot go across. The header for C is include/yaxopetzo.h. No call asks
-// anything of its caller but that a pointer and its length are those of a buffer.
+// Frames for C: the setting, what receiving answers, and the calls. The payload goes back as its place in the lent area.
 ghost use mathlib.Core.Path.{_≡_};
 ghost use Rattle.frame.specs.Frame.{allowedFrame, sentNumber, sendOutcome, sent, answered, received};
-ghost use Rattle.word.specs.Shown.{Shows};
+ghost use Rattle.radio.specs.Shown.{Shows};
 ghost use Rattle.radio.specs.Frames.{framingOf, startOf, frameSeen};
 use frame::numbers::number_of;
 use frame::numbers::sent_number;

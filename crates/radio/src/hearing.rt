@@ -1,12 +1,10 @@
-// The receiver's whole call for C: it hands its input to the call of `link` and shows the answer. What is shown of a frame stands in
-// `radio_frame`, and what is shown of the record in `radio_record`. The header for C is include/yaxopetzo.h. No call asks anything of its
-// caller but that a pointer and its length are those of a buffer.
+// The receiver's whole call for C: a frame's answer and the record after it are shown as `frames` and `records` show them.
 ghost use mathlib.Core.Path.{_≡_};
 ghost use Rattle.link.specs.Receiver.{hearOutcome, heard};
-ghost use Rattle.word.specs.Shown.{Shows};
+ghost use Rattle.radio.specs.Shown.{Shows};
 ghost use Rattle.radio.specs.Frames.{framingOf};
 ghost use Rattle.radio.specs.Records.{recordOf};
-ghost use Rattle.radio.specs.Receiver.{heardSeen, bothSeen};
+ghost use Rattle.radio.specs.Hearing.{heardSeen, bothSeen};
 use crate::frames::FrameAnswer;
 use crate::frames::FrameSetting;
 use crate::frames::frame_answer;

@@ -1,10 +1,10 @@
-// The delay line for C. A line's setting is the caller's and does not change, so only the position goes back.
+// The delay line for C. A line's setting is the caller's and does not change, so only the position goes back, as the cross line's does.
 ghost use mathlib.Core.Path.{_≡_};
 ghost use Rattle.interleave.specs.Promises.{FreshSender, FreshReceiver, SendStep, SendRun, ReceiveStep, ReceiveRun};
-ghost use Rattle.word.specs.Shown.{Shows};
-ghost use Rattle.radio.specs.DelayLine.{lineOf, readySeen, sentSeen, receivedSeen};
+ghost use Rattle.radio.specs.Shown.{Shows};
+ghost use Rattle.radio.specs.Lines.{lineOf, readySeen, sentSeen, receivedSeen};
+use cross::Ready;
 use interleave::Line;
-use interleave::Ready;
 use interleave::fresh_receiver;
 use interleave::fresh_sender;
 use interleave::receive_run;
@@ -20,14 +20,7 @@ pub struct LineSetting {
     pub n: u32,
 }
 
-// The number a call answers, and the position for the next call.
-#[repr(C)]
-pub struct LineReady {
-    pub answer: u8,
-    pub position: usize,
-}
-
-// The same with the byte that leaves the sender.
+// What a step of the sender answers: its number, the byte that leaves, and the position for the next step.
 #[repr(C)]
 pub struct LineSent {
     pub answer: u8,
@@ -56,24 +49,17 @@ fn line_of(line: LineSetting, position: usize) -> Line
     }
 }
 
-// An answer as C sees it.
-fn line_ready(ready: Ready) -> LineReady
-    ensures { λ r. ⌜ r ≡ readySeen ready ⌝ }
-{
-    LineReady {
-        answer: ready.answer,
-        position: ready.line.position,
-    }
-}
-
 // A sender that has sent nothing. Answers 0, 1 or 2; refused, the memory stays as it was.
 #[no_mangle]
-pub extern "C" fn yaxo_line_fresh_sender(line: LineSetting, memory: &mut [u8]) -> LineReady
+pub extern "C" fn yaxo_line_fresh_sender(line: LineSetting, memory: &mut [u8]) -> Ready
     ensures { λ r. ⌜ Shows readySeen (λ t. FreshSender (line .branches) (line .unit) (line .n) (now (memory .entry)) t (now (memory .exit))) r ⌝ }
 {
     let s = line_of(line, 0);
     let t = fresh_sender(s.branches, s.unit, s.n, memory);
-    line_ready(t)
+    Ready {
+        answer: t.answer,
+        position: t.line.position,
+    }
 }
 
 // A receiver that has received nothing. Answers 0, 1 or 2; refused, both memories stay as they were.
@@ -82,12 +68,15 @@ pub extern "C" fn yaxo_line_fresh_receiver(
     line: LineSetting,
     memory: &mut [u8],
     held: &mut [u8],
-) -> LineReady
+) -> Ready
     ensures { λ r. ⌜ Shows readySeen (λ t. FreshReceiver (line .branches) (line .unit) (line .n) (now (memory .entry)) (now (held .entry)) t (now (memory .exit)) (now (held .exit))) r ⌝ }
 {
     let s = line_of(line, 0);
     let t = fresh_receiver(s.branches, s.unit, s.n, memory, held);
-    line_ready(t)
+    Ready {
+        answer: t.answer,
+        position: t.line.position,
+    }
 }
 
 // One step of a sender. Answers 0, 1 or 2; refused, the memory stays as it was.
@@ -115,11 +104,14 @@ pub extern "C" fn yaxo_line_send_run(
     position: usize,
     memory: &mut [u8],
     bytes: &mut [u8],
-) -> LineReady
+) -> Ready
     ensures { λ r. ⌜ Shows readySeen (λ t. SendRun (lineOf line position) (now (memory .entry)) (now (bytes .entry)) t (now (memory .exit)) (now (bytes .exit))) r ⌝ }
 {
     let t = send_run(line_of(line, position), memory, bytes);
-    line_ready(t)
+    Ready {
+        answer: t.answer,
+        position: t.line.position,
+    }
 }
 
 // One step of a receiver. Answers 0, 1, 2 or 3; refused, both memories stay as they were.
@@ -152,9 +144,12 @@ pub extern "C" fn yaxo_line_receive_run(
     held: &mut [u8],
     bytes: &mut [u8],
     marks: &mut [u8],
-) -> LineReady
+) -> Ready
     ensures { λ r. ⌜ Shows readySeen (λ t. ReceiveRun (lineOf line position) (now (memory .entry)) (now (held .entry)) (now (bytes .entry)) (now (marks .entry)) t (now (memory .exit)) (now (held .exit)) (now (bytes .exit)) (now (marks .exit))) r ⌝ }
 {
     let t = receive_run(line_of(line, position), memory, held, bytes, marks);
-    line_ready(t)
+    Ready {
+        answer: t.answer,
+        position: t.line.position,
+    }
 }

@@ -1,9 +1,8 @@
-// The word code for C: its setting, what decoding answers, and the calls. Each call hands its input to the call below it and shows the answer.
-// The header for C is include/yaxopetzo.h. No call asks anything of its caller but that a pointer and its length are those of a buffer.
+// The word code for C: its setting, what decoding answers, and the calls.
 ghost use mathlib.Core.Path.{_≡_};
 ghost use Rattle.word.specs.Setting.{allowed};
 ghost use Rattle.word.specs.Answers.{outcome, encodeOutcome, encodedNumber, encodes, decoded, decodedPart};
-ghost use Rattle.word.specs.Shown.{Shows};
+ghost use Rattle.radio.specs.Shown.{Shows};
 ghost use Rattle.radio.specs.Words.{codeOf, decodedSeen};
 use word::Decoded;
 use word::Figures;

@@ -18,10 +18,8 @@ same-length c = search needs
 
 returns : tie.Need-returns
 returns c =
-    let inner = c .before .before .before .before .receive in
-    record { inner = inner .result; promised = rw (c .before .before .before .before .before .before .framing-of .ensures) at (inner .ensures); same = c .frame-answer .ensures }
+    let told = c .before .before .before .before in
+    record { inner = told .receive .result; promised = rw (told .before .before .framing-of .ensures) at (told .receive .ensures); same = c .frame-answer .ensures }
 
 pub yaxo-frame-receive-spec : {M : Type 1} → statement M
-yaxo-frame-receive-spec =
-    tie.close
-    (tie.spec framing-of-requires receive-requires frame-answer-requires same-length returns)
+yaxo-frame-receive-spec = tie.close (tie.spec framing-of-requires receive-requires frame-answer-requires same-length returns)

@@ -18,9 +18,8 @@ same-length c = search needs
 
 returns : tie.Need-returns
 returns c =
-    let inner = c .before .before .before .send in
-    record { inner = inner .result; promised = rw (c .before .before .before .before .before .framing-of .ensures) at (inner .ensures); same = c .sent-number .ensures }
+    let told = c .before .before .before in
+    record { inner = told .send .result; promised = rw (told .before .before .framing-of .ensures) at (told .send .ensures); same = c .sent-number .ensures }
 
 pub yaxo-frame-send-spec : {M : Type 1} → statement M
-yaxo-frame-send-spec =
-    tie.close (tie.spec framing-of-requires send-requires sent-number-requires same-length returns)
+yaxo-frame-send-spec = tie.close (tie.spec framing-of-requires send-requires sent-number-requires same-length returns)

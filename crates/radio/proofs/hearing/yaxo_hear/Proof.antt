@@ -1,7 +1,7 @@
 -- `yaxo_hear` meets its contract: record and answer shown are ones that hearing promises, of the same record and setting.
 -- Assumes nothing.
 use mathlib.Core.Path.{ap₂}
-use Rattle.radio.specs.Receiver.{bothSeen}
+use Rattle.radio.specs.Hearing.{bothSeen}
 use borrow.Author.Needs.{needs}
 use Rattle.radio.proofs.hearing.yaxo_hear.Statement.{statement}
 use Rattle.radio.proofs.hearing.yaxo_hear.Tie as tie

@@ -6,10 +6,10 @@ use denote.Triple.Spec.{tripleOf}
 use denote.Triple.Table.{entered, cited}
 use Rattle.link.specs.Receiver.{hearOutcome, heard}
 use Rattle.link.proofs.Lent.{Plain, meets}
-use Rattle.word.specs.Shown.{Shows}
+use Rattle.radio.specs.Shown.{Shows}
 use Rattle.radio.specs.Frames.{framingOf}
 use Rattle.radio.specs.Records.{recordOf}
-use Rattle.radio.specs.Receiver.{heardSeen, bothSeen}
+use Rattle.radio.specs.Hearing.{heardSeen, bothSeen}
 use Rattle.radio.proofs.records.LentRecord as T
 use Rattle.radio.proofs.records.LentRecord.Laws as T′
 use Rattle.radio.proofs.frames.FrameSetting as F

@@ -1,5 +1,6 @@
 -- `yaxo_line_receive_run` meets its contract: the answer shown is one that the line's own call promises, of the same line.
 -- Assumes nothing.
+use mathlib.Core.Path.{refl}
 use borrow.Author.Needs.{needs}
 use Rattle.radio.proofs.lines.yaxo_line_receive_run.Statement.{statement}
 use Rattle.radio.proofs.lines.yaxo_line_receive_run.Tie as tie
@@ -9,9 +10,6 @@ line-of-requires c κs = search needs
 
 receive-run-requires : tie.Need-receive-run-requires
 receive-run-requires c κs = search needs
-
-line-ready-requires : tie.Need-line-ready-requires
-line-ready-requires c κs = search needs
 
 same-length : tie.Need-same-length
 same-length c = search needs
@@ -27,18 +25,8 @@ same-length-4 c = search needs
 
 returns : tie.Need-returns
 returns c =
-    let inner = c .before .before .before .before .before .before .before .before .before .receive-run in
-    record { inner = inner .result; promised = rw (c .before .before .before .before .before .before .before .before .before .before .before .before .before .before .line-of .ensures) at (inner .ensures); same = c .line-ready .ensures }
+    let told = c .before .before .before .before .before .before .before .before in
+    record { inner = told .receive-run .result; promised = rw (told .before .before .before .before .before .line-of .ensures) at (told .receive-run .ensures); same = refl }
 
 pub yaxo-line-receive-run-spec : {M : Type 1} → statement M
-yaxo-line-receive-run-spec =
-    tie.close
-    (tie.spec
-    line-of-requires
-    receive-run-requires
-    line-ready-requires
-    same-length
-    same-length-2
-    same-length-3
-    same-length-4
-    returns)
+yaxo-line-receive-run-spec = tie.close (tie.spec line-of-requires receive-run-requires same-length same-length-2 same-length-3 same-length-4 returns)

@@ -19,9 +19,8 @@ same-length-2 c = search needs
 
 returns : tie.Need-returns
 returns c =
-    let inner = c .before .before .before .before .receive-step in
-    record { inner = inner .result; promised = rw (c .before .before .before .before .before .before .before .line-of .ensures) at (inner .ensures); same = refl }
+    let told = c .before .before .before .before in
+    record { inner = told .receive-step .result; promised = rw (told .before .before .before .line-of .ensures) at (told .receive-step .ensures); same = refl }
 
 pub yaxo-line-receive-step-spec : {M : Type 1} → statement M
-yaxo-line-receive-step-spec =
-    tie.close (tie.spec line-of-requires receive-step-requires same-length same-length-2 returns)
+yaxo-line-receive-step-spec = tie.close (tie.spec line-of-requires receive-step-requires same-length same-length-2 returns)

@@ -1,5 +1,6 @@
 -- `yaxo_line_send_run` meets its contract: the answer shown is one that the line's own call promises, of the same line.
 -- Assumes nothing.
+use mathlib.Core.Path.{refl}
 use borrow.Author.Needs.{needs}
 use Rattle.radio.proofs.lines.yaxo_line_send_run.Statement.{statement}
 use Rattle.radio.proofs.lines.yaxo_line_send_run.Tie as tie
@@ -10,9 +11,6 @@ line-of-requires c κs = search needs
 send-run-requires : tie.Need-send-run-requires
 send-run-requires c κs = search needs
 
-line-ready-requires : tie.Need-line-ready-requires
-line-ready-requires c κs = search needs
-
 same-length : tie.Need-same-length
 same-length c = search needs
 
@@ -21,16 +19,8 @@ same-length-2 c = search needs
 
 returns : tie.Need-returns
 returns c =
-    let inner = c .before .before .before .before .before .send-run in
-    record { inner = inner .result; promised = rw (c .before .before .before .before .before .before .before .before .line-of .ensures) at (inner .ensures); same = c .line-ready .ensures }
+    let told = c .before .before .before .before in
+    record { inner = told .send-run .result; promised = rw (told .before .before .before .line-of .ensures) at (told .send-run .ensures); same = refl }
 
 pub yaxo-line-send-run-spec : {M : Type 1} → statement M
-yaxo-line-send-run-spec =
-    tie.close
-    (tie.spec
-    line-of-requires
-    send-run-requires
-    line-ready-requires
-    same-length
-    same-length-2
-    returns)
+yaxo-line-send-run-spec = tie.close (tie.spec line-of-requires send-run-requires same-length same-length-2 returns)

@@ -16,9 +16,8 @@ same-length c = search needs
 
 returns : tie.Need-returns
 returns c =
-    let inner = c .before .before .send-step in
-    record { inner = inner .result; promised = rw (c .before .before .before .before .line-of .ensures) at (inner .ensures); same = refl }
+    let told = c .before .before in
+    record { inner = told .send-step .result; promised = rw (told .before .before .line-of .ensures) at (told .send-step .ensures); same = refl }
 
 pub yaxo-line-send-step-spec : {M : Type 1} → statement M
-yaxo-line-send-step-spec =
-    tie.close (tie.spec line-of-requires send-step-requires same-length returns)
+yaxo-line-send-step-spec = tie.close (tie.spec line-of-requires send-step-requires same-length returns)

@@ -18,9 +18,8 @@ same-length c = search needs
 
 returns : tie.Need-returns
 returns c =
-    let inner = c .before .before .before .decode in
-    record { inner = inner .result; promised = rw (c .before .before .before .before .before .code-of .ensures) at (inner .ensures); same = c .word-answer .ensures }
+    let told = c .before .before .before in
+    record { inner = told .decode .result; promised = rw (told .before .before .code-of .ensures) at (told .decode .ensures); same = c .word-answer .ensures }
 
 pub yaxo-word-decode-spec : {M : Type 1} → statement M
-yaxo-word-decode-spec =
-    tie.close (tie.spec code-of-requires decode-requires word-answer-requires same-length returns)
+yaxo-word-decode-spec = tie.close (tie.spec code-of-requires decode-requires word-answer-requires same-length returns)

@@ -18,10 +18,8 @@ same-length c = search needs
 
 returns : tie.Need-returns
 returns c =
-    let inner = c .before .before .before .encode in
-    record { inner = inner .result; promised = rw (c .before .before .before .before .before .code-of .ensures) at (inner .ensures); same = c .encoded-number .ensures }
+    let told = c .before .before .before in
+    record { inner = told .encode .result; promised = rw (told .before .before .code-of .ensures) at (told .encode .ensures); same = c .encoded-number .ensures }
 
 pub yaxo-word-encode-spec : {M : Type 1} → statement M
-yaxo-word-encode-spec =
-    tie.close
-    (tie.spec code-of-requires encode-requires encoded-number-requires same-length returns)
+yaxo-word-encode-spec = tie.close (tie.spec code-of-requires encode-requires encoded-number-requires same-length returns)

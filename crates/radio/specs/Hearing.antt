@@ -8,7 +8,7 @@ use Rattle.record.specs.declared.Record.{Record}
 use Rattle.link.specs.Receiver.{hearOutcome, heard}
 use Rattle.link.specs.Receiver.Laws.{hear-once}
 use Rattle.link.specs.declared.hearing.Heard.{Heard}
-use Rattle.word.specs.Shown.{Shows, shown-once}
+use Rattle.radio.specs.Shown.{Shows, shown-once}
 use Rattle.radio.specs.Frames.{framingOf, frameSeen}
 use Rattle.radio.specs.declared.frames.FrameSetting.{FrameSetting}
 use Rattle.radio.specs.declared.frames.FrameAnswer.{FrameAnswer}
