@@ -1,36 +1,40 @@
 #!/usr/bin/env bash
 # Nothing is assumed: no hole, no axiom, and no entry point asks anything of its caller.
 status=0
-if grep -rnE '(^|[ (])\?[a-z]*$|= \?$' crates --include='*.antt'; then
-  echo "a hole"
+fail() { # WHY
+  echo "$1"
   status=1
-fi
-if grep -rnE '^ *axiom ' crates --include='*.antt'; then
-  echo "an axiom"
-  status=1
-fi
-# These are the crates whose calls a user makes. All others are inner crates, whose calls may ask something; what `word` hands on of `code`, and
-# `link` of `frame` and `trailer`, may not. The crates `radio_*`, whose calls C makes, stand below.
-for library in field word record sender receiver interleave cross_sender cross_receiver frame_out frame_in link reader; do
-  for call in $(sed -n 's/^pub use [a-z_:]*::\([a-z_0-9]*\);$/\1/p; s/^pub fn \([a-z_0-9]*\).*/\1/p' "crates/$library/src/lib.rt"); do
-    if cat "crates/$library"/src/*.rt crates/{code/src/limits,frame/src/setting,trailer/src/lib}.rt | sed -n "/^pub fn $call[<(]/,/^{/p" | grep -q requires; then
-      echo "$call of $library has a requires"
-      status=1
+}
+grep -rnE '(^|[ (])\?[a-z]*$|= \?$' crates --include='*.antt' && fail "a hole"
+grep -rnE '^ *axiom ' crates --include='*.antt' && fail "an axiom"
+
+# The libraries whose calls a user makes. Their entry points are what lib.rt declares as `pub fn` or hands on by `pub use`: of a module of its
+# own, or of a library that stands here too. A call of a `pub mod` that lib.rt does not hand on is for the crates above, and may ask something.
+libraries=" field word interleave cross record frame link reader "
+entry() { # LIBRARY FILE CALL
+  local contract
+  contract=$(sed -n "/^pub fn $3[<(]/,/^{/p" "$2" 2>/dev/null)
+  [ -n "$contract" ] || fail "$3 of $1 is not declared in $2"
+  ! grep -q requires <<<"$contract" || fail "$3 of $1 has a requires"
+  grep -q ensures <<<"$contract" || fail "$3 of $1 has no promise"
+}
+for library in $libraries; do
+  source=crates/$library/src
+  calls=$(sed -nE 's/^pub fn ([a-z_0-9]+).*/lib \1/p; s/^pub use ([a-z_]+)::([a-z_0-9]+);$/\1 \2/p' "$source/lib.rt")
+  [ -n "$calls" ] || fail "$library has no entry point"
+  while read -r from call; do
+    if [ -f "$source/$from.rt" ]; then
+      entry "$library" "$source/$from.rt" "$call"
+    elif [[ $libraries != *" $from "* ]]; then
+      fail "$library hands on $call of $from, which is not among the libraries that are looked at"
     fi
-  done
+  done <<<"$calls"
 done
+
 # C cannot be held to a `requires`, and no call for C, nor what it shows an answer by, is without a promise.
-if grep -n requires crates/radio_*/src/*.rt; then
-  echo "a call for C has a requires"
-  status=1
-fi
-for folder in crates/radio_*; do
-  calls=$(cat "$folder"/src/*.rt | grep -c '^pub extern "C" fn ')
-  functions=$(cat "$folder"/src/*.rt | grep -cE '^(pub )?(extern "C" )?fn ')
-  promises=$(cat "$folder"/src/*.rt | grep -c '^    ensures { ')
-  if [ "$calls" -eq 0 ] || [ "$functions" -ne "$promises" ]; then
-    echo "$folder has $calls calls for C, and $promises promises of $functions functions"
-    status=1
-  fi
-done
+grep -n requires crates/radio/src/*.rt && fail "a call for C has a requires"
+functions=$(cat crates/radio/src/*.rt | grep -cE '^(pub )?(extern "C" )?fn ')
+promises=$(cat crates/radio/src/*.rt | grep -c '^    ensures { ')
+[ "$functions" -eq "$promises" ] || fail "radio has $promises promises of $functions functions"
+grep -q '^pub extern "C" fn ' crates/radio/src/*.rt || fail "radio has no call for C"
 exit $status
