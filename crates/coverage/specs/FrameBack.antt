@@ -30,7 +30,7 @@ use Rattle.frame.specs.declared.setting.Verdict.the-variants.{Done}
 use Rattle.coverage.specs.Channel.{wordOf}
 use Rattle.coverage.specs.Frame.{Message, Fits, FrameSent, inFrame, Frame, Arrives, Answer, Answers, ComesBack}
 use Rattle.coverage.specs.Coverage.{FrameComesBack}
-use Rattle.coverage.specs.Words.{Came, tabulate-below, word-corrected, encoded-code, encoded-size, encoded-message}
+use Rattle.coverage.specs.Words.{picked, Came, came-in, word-corrected, encoded-code, encoded-size, encoded-message}
 
 -- ---- the parts of a list, joined again
 
@@ -149,14 +149,9 @@ module _ (f : Framing) (ok : T (allowedFrame f)) where
       answer = record { verdict = Done; sequence = m .sequence; back = length (m .payload); figures = figuresReceived f (frame .marks) (frame .slots) }
 
       word-came : (w : ℕ) → w < f .depth → Came (wordSetting f) (word w) (wordOf (inFrame f) (frame .slots) w) (wordOf (inFrame f) (frame .marks) w)
-      word-came w l = record {
-        code = encoded-code (wordSetting f) code-allowed (message w) (message-size w l) (message-bytes w l);
-        near = rw (slots-hold (a .sent) (a .sending) w l) at (a .within w l);
-        size = length-tabulate (f .n) _;
-        marks-size = length-tabulate (f .n) _;
-        bytes = tabulate-below 256 (f .n) _ λ i u. below-at 256 (frame .slots) (a .channel .bytes) _ (omega arith);
-        zero-or-one = tabulate-below 2 (f .n) _ λ i u. below-at 2 (frame .marks) (a .channel .zero-or-one) _ (omega arith);
-      }
+      word-came w l =
+          came-in (wordSetting f) refl (word w) _ _ (encoded-code (wordSetting f) code-allowed (message w) (message-size w l) (message-bytes w l))
+          (rw (slots-hold (a .sent) (a .sending) w l) at (a .within w l)) (picked (f .n) (λ i. i * f .depth + w) (frame .slots) (frame .marks) (a .channel))
 
       word-found : (w : ℕ) → w < f .depth → correctedWord f (frame .marks) (frame .slots) w ≡ some (word w)
       unfolding correctedWord wordIn

@@ -3,21 +3,18 @@
 -- Assumes nothing.
 use mathlib.Core.Path.{_≡_, sym, _∙_}
 use mathlib.Core.List.{List, [], flatten}
-use Prim.Native.Nat.{ℕ, _<_}
-use native.Mathlib.Omega.{arith}
+use Prim.Native.Nat.{ℕ, _+_, _*_, _<_}
 use lib.ListN.{length, getD}
 use lib.Dec.{T}
-use Rattle.algebra.specs.Tests.{below-at}
-use Rattle.algebra.specs.Lists.{tabulated, length-tabulate}
+use Rattle.algebra.specs.Lists.{tabulated}
 use Rattle.frame.specs.Frame.{slotCount, allowedFrame}
 use Rattle.frame.specs.declared.setting.Framing.{Framing}
-use Rattle.coverage.specs.Channel.{Channel}
 use Rattle.coverage.specs.Frame.{Message, FrameSent, Frame, Arrives, StreamArrives, frameAt, framesOf, Answers, ComesBack}
 use Rattle.coverage.specs.Coverage.{FramesComeBack, FramesRunComeBack, NoTwoFramesAlike}
 use Rattle.coverage.specs.Each.{Each, each-length, each-entry, each-tabulate, each-chain, each-once}
 use Rattle.coverage.specs.EndToEnd.{Sized, flatten-at}
 use Rattle.coverage.specs.RunsCovered.{frames-run-within}
-use Rattle.coverage.specs.Words.{tabulate-below}
+use Rattle.coverage.specs.Words.{picked}
 use Rattle.coverage.specs.FrameBack.{slots-size, some-answer, frame-comes-back}
 
 pub frames-come-back : FramesComeBack
@@ -40,19 +37,11 @@ module _ (f : Framing) (ok : T (allowedFrame f)) (ms : List Message) (slots mark
       let k : i < length (a .sent) = rw (← each-length (FrameSent f) ms (a .sent) (a .sending)) h in
       sym (tabulated (getD (a .sent) i []) (slotCount f) _ 0 (frame-size i k) λ s l. sym (flatten-at (slotCount f) (a .sent) frame-size i s k l))
 
-  frame-channel : (i : ℕ) → i < length ms → Channel (slotCount f) (frameAt f slots i) (frameAt f marks i)
-  frame-channel i h = record {
-    slots-size = length-tabulate (slotCount f) _;
-    marks-size = length-tabulate (slotCount f) _;
-    bytes = tabulate-below 256 (slotCount f) _ λ s l. below-at 256 slots (a .channel .bytes) _ (omega arith);
-    zero-or-one = tabulate-below 2 (slotCount f) _ λ s l. below-at 2 marks (a .channel .zero-or-one) _ (omega arith);
-  }
-
   frames-arrive : Each (Arrives f) ms (framesOf f (length ms) slots marks)
   frames-arrive = each-tabulate (Arrives f) ms none _ λ i h. record {
     sent = getD (a .sent) i [];
     sending = frame-sent i h;
-    channel = frame-channel i h;
+    channel = picked (slotCount f) (λ s. i * slotCount f + s) slots marks (a .channel);
     within = rw (frame-back i h) at (frames-run-within f (length ms) i h (flatten (a .sent)) slots marks (a .run));
   }
 

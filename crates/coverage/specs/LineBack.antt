@@ -10,7 +10,7 @@ use lib.ListN.{length, getD, take, replicate, length-append, length-replicate, L
 use lib.Seq.{ext-getD}
 use lib.Dec.{T}
 use Rattle.algebra.specs.Tests.{at, below-at}
-use Rattle.algebra.specs.Lists.{tabulate, tabulated, length-tabulate, getD-tabulate, tabulate-same}
+use Rattle.algebra.specs.Lists.{tabulate, tabulated, getD-tabulate, tabulate-same}
 use Rattle.word.specs.Setting.{messageSize}
 use Rattle.word.specs.Code.{encoded}
 use Rattle.word.specs.Codeword.{isCodeword, codeword}
@@ -28,7 +28,7 @@ use Rattle.coverage.specs.Each.{each-length, each-entry}
 use Rattle.coverage.specs.EndToEnd.{Sized, flatten-length, flatten-at}
 use Rattle.coverage.specs.Places.{line-place, line-found}
 use Rattle.coverage.specs.LineCalls.{Prepared, sender-calls, receiver-calls}
-use Rattle.coverage.specs.Words.{Came, tabulate-below, word-encoded, encoded-code, encoded-message, word-once, word-decoded, part-decoded}
+use Rattle.coverage.specs.Words.{picked, Came, came-in, word-encoded, encoded-code, encoded-message, word-once, word-decoded, part-decoded}
 
 module _ (l : LineSetting) (ok : LineAllowed l) where
   abbrev I : ℕ
@@ -153,14 +153,7 @@ module _ (l : LineSetting) (ok : LineAllowed l) where
         ∙ line-place l ok w (at (fed l (a .words))) p ∙ fed-at w p h u))
 
     word-came : (w : ℕ) → w < length messages → Came (codeOf l) (word w) (wordOf (onLine l (length messages)) slots w) (wordOf (onLine l (length messages)) marks w)
-    word-came w h = record {
-      code = word-code w h;
-      near = rw (on-line w h) at (a .within w h);
-      size = length-tabulate n _;
-      marks-size = length-tabulate n _;
-      bytes = tabulate-below 256 n _ λ p u. below-at 256 slots (a .channel .bytes) _ (omega arith);
-      zero-or-one = tabulate-below 2 n _ λ p u. below-at 2 marks (a .channel .zero-or-one) _ (omega arith);
-    }
+    word-came w h = came-in (codeOf l) refl (word w) _ _ (word-code w h) (rw (on-line w h) at (a .within w h)) (picked n (slotOf l w) slots marks (a .channel))
 
     -- what leaves the receiver is what the word's slots held
     module _ (bytes flags : List ℕ) (r : LineReceived l slots marks bytes flags) where

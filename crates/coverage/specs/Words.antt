@@ -1,14 +1,14 @@
 -- One word whose slots are within the bound: what the promises of `encode` and `decode` say of it.
 -- Assumes nothing.
-use mathlib.Core.Path.{_≡_, refl, sym, ap, _∙_}
+use mathlib.Core.Path.{_≡_, refl, sym, ap}
 use mathlib.Core.Bool.{true}
 use mathlib.Core.List.{List}
 use mathlib.Core.Option.{some}
 use Prim.Native.Nat.{ℕ, _^_, _<_}
 use native.Mathlib.Omega.{arith}
 use lib.ListN.{length, take}
-use lib.Dec.{T}
-use Rattle.algebra.specs.Tests.{below, below-all, passed}
+use lib.Dec.{T, lit<}
+use Rattle.algebra.specs.Tests.{at, below, below-at, below-all, passed}
 use Rattle.algebra.specs.Lists.{tabulate, length-tabulate, getD-tabulate}
 use Rattle.word.specs.Setting.{allowed, messageSize}
 use Rattle.word.specs.Codeword.{isCodeword, qualifies, codeword, is-near}
@@ -22,10 +22,20 @@ use Rattle.word.specs.declared.Decoded.{Decoded}
 use Rattle.word.specs.declared.Decoded.the-variants.{Done}
 use Rattle.word.specs.declared.Encoded.{Encoded}
 use Rattle.word.specs.declared.Encoded.the-variants as E
-use Rattle.coverage.specs.Channel.{Within}
+use Rattle.coverage.specs.Channel.{Channel, Within}
 
-pub tabulate-below : (q n : ℕ) (f : ℕ → ℕ) → ((i : ℕ) → i < n → f i < q) → T (below q (tabulate n f))
-tabulate-below q n f h = below-all q (tabulate n f) λ i u. let l : i < n = omega (arith, length-tabulate n f) in rw (getD-tabulate n f i 0 l) (h i l)
+-- some slots of a channel, one for each place, are a channel's too
+module _ (n : ℕ) (slot : ℕ → ℕ) {size : ℕ} (slots marks : List ℕ) (c : Channel size slots marks) where
+  picked-below : (q : ℕ) (x : List ℕ) → 0 < q → T (below q x) → T (below q (tabulate n λ p. at x (slot p)))
+  picked-below q x pos t = below-all q (tabulate n λ p. at x (slot p)) λ p u. rw (getD-tabulate n (λ p. at x (slot p)) p 0 (omega (arith, length-tabulate n (λ p. at x (slot p))))) (below-at q x t (slot p) pos)
+
+  pub picked : Channel n (tabulate n λ p. at slots (slot p)) (tabulate n λ p. at marks (slot p))
+  picked = record {
+    slots-size = length-tabulate n _;
+    marks-size = length-tabulate n _;
+    bytes = picked-below 256 slots (lit< tt) (c .bytes);
+    zero-or-one = picked-below 2 marks (lit< tt) (c .zero-or-one);
+  }
 
 -- ---- a message and its word
 
@@ -54,6 +64,17 @@ pub record Came (s : Setting) (sent came marks : List ℕ) : Type 0 where
   pub marks-size : length marks ≡ s .n
   pub bytes : T (below (2 ^ s .m) came)
   pub zero-or-one : T (below 2 marks)
+
+-- a word of bytes, in the slots of a channel
+pub came-in : (s : Setting) → s .m ≡ 8 → (sent came marks : List ℕ) → T (isCodeword s sent) → Within (s .r) sent came marks → Channel (s .n) came marks → Came s sent came marks
+came-in s eight sent came marks code near c = record {
+  code = code;
+  near = near;
+  size = c .slots-size;
+  marks-size = c .marks-size;
+  bytes = rw eight (c .bytes);
+  zero-or-one = c .zero-or-one;
+}
 
 module _ (s : Setting) (ok : T (allowed s)) (marks came : List ℕ) where
   module _ (sent : List ℕ) (c : Came s sent came marks) where
