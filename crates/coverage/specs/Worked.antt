@@ -1,10 +1,10 @@
--- The demand is not empty: here are a frame and a delay line that it speaks of.
+-- The demand is not empty: here are a frame, two frames end to end and a delay line that it speaks of.
 -- Assumes nothing.
 use mathlib.Core.Path.{_≡_, refl, sym}
 use mathlib.Core.Bool.{Bool, true, false, _&&_, _||_}
 use mathlib.Core.Logic.{inl}
 use mathlib.Core.List.{List, [], _∷_, flatten}
-use Prim.Native.Nat.{ℕ, zero, suc}
+use Prim.Native.Nat.{ℕ, zero, suc, _+_}
 use native.Mathlib.Omega.{arith}
 use lib.Dec.{T, lit≤, eqb, eqb→eq, leb, ltb, leb→le, ltb→lt}
 use lib.ListN.{length, replicate}
@@ -25,11 +25,36 @@ use Rattle.rings.specs.Rings.{ring, tri}
 use Rattle.interleave.specs.Line.{period, common}
 use Rattle.frame.specs.FrameExample.{example, slotsOut, slotsIn, sent-example}
 use Rattle.frame.specs.declared.setting.Sent.the-variants.{Done}
-use Rattle.coverage.specs.Channel.{Layout, OnWords, AllWithin, OneRun}
-use Rattle.coverage.specs.Frame.{inFrame, Frame, Arrives}
+use Rattle.coverage.specs.Channel.{Layout, OnWords, AllWithin, Struck, OneRun}
+use Rattle.coverage.specs.Frame.{Message, FrameSent, inFrame, inFrames, Frame, Arrives, StreamArrives}
 use Rattle.coverage.specs.Line.{LineSetting, codeOf, LineAllowed, WordSent, fed, LineSent, slotOf, onLine, LineArrives}
 use Rattle.coverage.specs.RunsCovered.{line-run-within}
 use Rattle.coverage.specs.LineBack.{line-sent}
+
+-- ---- a run, tested slot by slot
+
+unless : (a b : Bool) → T (a || b) → ¬ T a → T b
+unless true b t out = absurd (out tt)
+unless false b t out = t
+
+module _ (y : Layout) (start size : ℕ) (sent slots marks : List ℕ) where
+  abbrev hit : ℕ → Bool
+  hit s = leb start s && ltb s (start + size)
+
+  abbrev passes : ℕ → Bool
+  passes s = eqb (at marks s) 0 && (hit s || eqb (at slots s) (at sent s))
+
+  struck-by : T (each (y .words) λ w. each (y .n) λ p. passes (y .slot w p)) → Struck y ((start, size) ∷ []) sent slots marks
+  struck-by t = record {
+    unmarked = λ w p h l. eqb→eq _ _ (first (eqb (at marks (y .slot w p)) 0) _ (test w p h l));
+    clean = λ w p h l out.
+        let s : ℕ = y .slot w p in
+        eqb→eq _ _ (unless (hit s) _ (second (eqb (at marks s) 0) _ (test w p h l))
+        λ u. out (inl (leb→le start s (first (leb start s) _ u), ltb→lt s (start + size) (second (leb start s) _ u))));
+  }
+    where
+      test : OnWords y λ s. T (passes s)
+      test w p h l = each-at (y .n) (λ p. passes (y .slot w p)) (each-at (y .words) (λ w. each (y .n) λ p. passes (y .slot w p)) t w h) p l
 
 -- ---- the frame of the bench reader's example (document 01, Worked table), whose slots 2 and 3 were 65 and 2: one wrong symbol in each word
 
@@ -42,19 +67,40 @@ one-each zero h = lit≤ tt
 one-each (suc zero) h = lit≤ tt
 one-each (suc (suc w)) h = absurd (omega arith)
 
-pub frame-arrives : Arrives example (record { payload = 65 ∷ []; sequence = 258 }) frame
+abbrev message : Message
+message = record { payload = 65 ∷ []; sequence = 258 }
+
+frame-sent : FrameSent example message slotsOut
+unfolding below
+frame-sent = record {
+  fits = record { short = lit≤ tt; bytes = tt; number = lit≤ tt };
+  lent = replicate 10 0;
+  lent-size = refl;
+  answer = Done;
+  promise = sym sent-example;
+}
+
+pub frame-arrives : Arrives example message frame
 unfolding below
 frame-arrives = record {
   sent = slotsOut;
-  sending = record {
-    fits = record { short = lit≤ tt; bytes = tt; number = lit≤ tt };
-    lent = replicate 10 0;
-    lent-size = refl;
-    answer = Done;
-    promise = sym sent-example;
-  };
+  sending = frame-sent;
   channel = record { slots-size = refl; marks-size = refl; bytes = tt; zero-or-one = tt };
   within = one-each;
+}
+
+-- the same frame twice, end to end, with a run of J·t = 2 slots across the border
+
+abbrev stream : List ℕ
+stream = 0 ∷ 0 ∷ 65 ∷ 2 ∷ 1 ∷ 1 ∷ 217 ∷ 13 ∷ 153 ∷ 9 ∷ 9 ∷ 0 ∷ 65 ∷ 2 ∷ 1 ∷ 1 ∷ 217 ∷ 13 ∷ 153 ∷ 14 ∷ []
+
+pub frames-arrive : StreamArrives example (message ∷ message ∷ []) stream (replicate 20 0)
+unfolding below flatten each
+frames-arrive = record {
+  sent = slotsOut ∷ slotsOut ∷ [];
+  sending = (frame-sent, (frame-sent, tt));
+  channel = record { slots-size = refl; marks-size = refl; bytes = tt; zero-or-one = tt };
+  run = record { start = 9; size = 2; short = lit≤ tt; alone = struck-by (inFrames example 2) 9 2 (flatten (slotsOut ∷ slotsOut ∷ [])) stream (replicate 20 0) tt };
 }
 
 -- ---- a line of I = 2 and M = 2 with two words of n = 4 and r = 2: a run of I·t = 2 slots strikes both words, and the four slots that carry
@@ -107,29 +153,9 @@ sending : LineSent line (fed line words) sent
 unfolding flatten answer memory position lineOut lineKept ring tri period common tabulate
 sending = line-sent line line-allowed (fed line words)
 
--- what passes a test in every slot of the words
-on-words : (y : Layout) (b : ℕ → Bool) → T (each (y .words) λ w. each (y .n) λ p. b (y .slot w p)) → OnWords y λ s. T (b s)
-on-words y b t w p h l = each-at (y .n) (λ p. b (y .slot w p)) (each-at (y .words) (λ w. each (y .n) λ p. b (y .slot w p)) t w h) p l
-
-unless : (a b : Bool) → T (a || b) → ¬ T a → T b
-unless true b t out = absurd (out tt)
-unless false b t out = t
-
 pub line-run : OneRun 2 (onLine line 2) sent slots marks
 unfolding each slotOf
-line-run = record {
-  start = 4;
-  size = 2;
-  short = lit≤ tt;
-  alone = record {
-    unmarked = λ w p h l. eqb→eq _ _ (on-words (onLine line 2) (λ s. eqb (at marks s) 0) tt w p h l);
-    clean = λ w p h l out.
-        let s : ℕ = slotOf line w p in
-        let struck : Bool = leb 4 s && ltb s 6 in
-        eqb→eq _ _ (unless struck (eqb (at slots s) (at sent s)) (on-words (onLine line 2) (λ s. (leb 4 s && ltb s 6) || eqb (at slots s) (at sent s)) tt w p h l)
-        λ t. out (inl (leb→le 4 s (first (leb 4 s) (ltb s 6) t), ltb→lt s 6 (second (leb 4 s) (ltb s 6) t))));
-  };
-}
+line-run = record { start = 4; size = 2; short = lit≤ tt; alone = struck-by (onLine line 2) 4 2 sent slots marks tt }
 
 pub line-arrives : LineArrives line messages slots marks
 unfolding below flatten
