@@ -1,2 +1,4 @@
+pub mod Head
 pub mod Lines
 pub mod Spoken
+pub mod Promises

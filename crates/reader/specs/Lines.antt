@@ -1,4 +1,4 @@
--- Document 01, "Worked table": the lines that the bench reader prints of a frame.
+-- Document 01, "Worked table": the lines that the bench reader prints of an accepted frame.
 -- Assumes nothing.
 use mathlib.Core.List.{List, _++_}
 use Prim.Native.Nat.{ℕ}
@@ -6,22 +6,17 @@ use lib.ListN.{length, getD}
 use Rattle.word.specs.Answers.{noFigures}
 use Rattle.word.specs.declared.Figures.{Figures}
 use Rattle.frame.specs.Lists.{joined}
-use Rattle.text.specs.Text.{bytes, decimal, hexes}
+use Rattle.text.specs.Text.{bytes, named, hexes}
 pub mod Laws
 
 abbrev pub newline : List ℕ
 newline = bytes "\n"
 
--- what a number is, and the number
-unfoldable pub named : List ℕ → ℕ → List ℕ
-named name n = name ++ decimal n
-
-unfoldable pub refusal : ℕ → List ℕ
-refusal number = named (bytes "refused ") number ++ newline
-
+-- sequence number and payload length
 unfoldable pub firstLine : ℕ → ℕ → List ℕ
 firstLine sequence size = named (bytes "frame ") sequence ++ named (bytes " payload ") size ++ newline
 
+-- a word's number, e, f and bits
 unfoldable pub wordLine : ℕ → Figures → List ℕ
 wordLine w f =
     named (bytes "word ") w ++ named (bytes " errors ") (f .errors) ++ named (bytes " marked ") (f .marked) ++ named (bytes " bits ") (f .bits) ++ newline
@@ -29,6 +24,6 @@ wordLine w f =
 unfoldable pub wordLines : ℕ → List Figures → List ℕ
 wordLines depth figures = joined depth λ w. wordLine w (getD figures w noFigures)
 
--- an accepted frame: its first line, a line for each word, and the payload
+-- the first line, a line for each word, and the payload
 unfoldable pub frameText : ℕ → ℕ → List Figures → List ℕ → List ℕ
 frameText depth sequence figures payload = firstLine sequence (length payload) ++ wordLines depth figures ++ hexes payload ++ newline

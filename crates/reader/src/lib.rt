@@ -4,5 +4,9 @@ mod head;
 mod lines;
 mod reading;
 
+// What stands before the slots.
+pub use head::framing;
 pub use head::wanted;
+
+// The whole text.
 pub use reading::report;

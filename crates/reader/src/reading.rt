@@ -1,17 +1,18 @@
-// From the input to the text.
+// From the input to the text: the frame is received with no marks into work space, and what it was answered is told.
 ghost use mathlib.Core.Path.{_≡_};
 ghost use Prim.Native.Nat.{_≤_};
 ghost use lib.ListN.{length};
 ghost use Rattle.frame.specs.Frame.{received};
 ghost use Rattle.frame.specs.Frame.Limits.{FrameAllowed};
 ghost use Rattle.text.specs.Put.{Put};
-ghost use Rattle.reader.specs.Spoken.{blank, answerTo, told, textLeft, reported};
+ghost use Rattle.reader.specs.Promises.{Reports};
+ghost use Rattle.reader.specs.Spoken.{blank, answerTo, told};
 use crate::head::framing;
 use crate::lines::put_frame;
-use crate::lines::put_refusal;
 use frame::numbers::number_of;
 use link::Framing;
 use link::is_allowed;
+use text::put_refusal;
 
 // Work space for a frame, filled with zeros. A call of its own keeps the array out of its callers' proofs.
 fn work_space() -> [u8; 4080]
@@ -23,13 +24,13 @@ fn work_space() -> [u8; 4080]
 // Receives a frame and writes what it was answered.
 fn put_answer(f: Framing, slots: &[u8], marks: &[u8], area: &mut [u8], text: &mut [u8]) -> usize
     requires { ⌜ (f .depth ≤ 16) × (length (now area) ≤ 4080) × (9000 ≤ length (now text)) ⌝ }
-    ensures { λ r. ⌜ Put (now (text .entry)) 0 (told (f .depth) (received f (now (marks .entry)) (now (slots .entry)) (now (area .entry)))) r (now (text .exit)) ⌝ }
+    ensures { λ r. ⌜ Put (told (f .depth) (received f (now (marks .entry)) (now (slots .entry)) (now (area .entry)))) (now (text .entry)) 0 r (now (text .exit)) ⌝ }
 {
     let answer = link::receive(f, slots, marks, area);
     let verdict = answer.verdict;
-    let number = number_of(verdict) as usize;
+    let number = number_of(verdict);
     if number != 0 {
-        return put_refusal(number, text);
+        return put_refusal(number, text, 0);
     }
     let figures = answer.figures;
     put_frame(
@@ -44,7 +45,7 @@ fn put_answer(f: Framing, slots: &[u8], marks: &[u8], area: &mut [u8], text: &mu
 // The same of a frame without marks, in work space of its own.
 fn put_unmarked(f: Framing, slots: &[u8], text: &mut [u8]) -> usize
     requires { ⌜ FrameAllowed f × (9000 ≤ length (now text)) ⌝ }
-    ensures { λ r. ⌜ Put (now (text .entry)) 0 (told (f .depth) (answerTo f (now (slots .entry)))) r (now (text .exit)) ⌝ }
+    ensures { λ r. ⌜ Put (told (f .depth) (answerTo f (now (slots .entry)))) (now (text .entry)) 0 r (now (text .exit)) ⌝ }
 {
     let marks = work_space();
     let mut area = work_space();
@@ -56,14 +57,14 @@ fn put_unmarked(f: Framing, slots: &[u8], text: &mut [u8]) -> usize
 // Writes the bench reader's text for an input at the start of the lent text, and answers how long it is. What stands behind it stays.
 // 9,000 bytes hold every text: 26 for the first line, 48 for each of 16 words, and two for each byte of a payload.
 pub fn report(input: &[u8], text: &mut [u8; 9000]) -> usize
-    ensures { λ r. ⌜ (textLeft r (now (text .exit)) ≡ reported (now (input .entry)) (now (text .entry))) × (r ≤ length (now (text .exit))) ⌝ }
+    ensures { λ r. ⌜ Reports (now (input .entry)) (now (text .entry)) r (now (text .exit)) ⌝ }
 {
     if input.len() < 4 {
-        return put_refusal(2, text);
+        return put_refusal(2, text, 0);
     }
     let f = framing(input);
     if !is_allowed(f) {
-        return put_refusal(1, text);
+        return put_refusal(1, text, 0);
     }
     put_unmarked(f, &input[4..], text)
 }

@@ -1,4 +1,4 @@
--- The pieces of the text as they are written: digits, bytes in base sixteen, and how far the buffer reaches.
+-- The pieces of the text as they are written: digits, names and bytes in base sixteen.
 -- Assumes nothing.
 use mathlib.Core.Path.{_≡_, ap, _∙_}
 use mathlib.Core.List.{List, [], _∷_}
@@ -7,45 +7,48 @@ use native.Mathlib.Omega.{arith}
 use lib.ListN.{length, getD, take}
 use lib.Seq.{take-all, length-take-le}
 use Rattle.text.specs.Put.{Put, put-none, put-then, put-size}
-use Rattle.text.specs.Text.{digit, digitFrom, decimal, hexDigit, hex, hexes}
-use Rattle.text.specs.Text.Laws.{digit-left-out, digit-there, hexes-more, hexes-size}
+use Rattle.text.specs.Text.{bytes, digit, decimal, named, refusal, hexDigit, hex, hexes}
+use Rattle.text.specs.Text.Decimal.{decimal-one, decimal-more}
+use Rattle.text.specs.Text.Hex.{hexes-more, hexes-size}
 
--- ---- a digit of a decimal number
+-- ---- a number, its name and the line of a refusal
 
-module _ (text : List ℕ) (at n unit : ℕ) where
-  pub put-no-digit : at ≤ length text → n < unit → Put text at (digitFrom n unit) at text
-  put-no-digit room l = rw (digit-left-out n unit l) (put-none text at room)
+pub put-short : (n b : ℕ) {text left : List ℕ} {at end : ℕ} → n < 10 → b ≡ digit n → Put (b ∷ []) text at end left → Put (decimal n) text at end left
+put-short n b l e p = rw (decimal-one n l, ← e) p
 
-  pub put-the-digit : (b end : ℕ) (after : List ℕ) → unit ≤ n → b ≡ digit n unit → Put text at (b ∷ []) end after → Put text at (digitFrom n unit) end after
-  put-the-digit b end after l e p = rw (digit-there n unit l, ← e) p
+module _ (n : ℕ) {text t₁ left : List ℕ} {at a₁ end : ℕ} where
+  pub put-last : (b : ℕ) → 10 ≤ n → b ≡ digit (n % 10) → Put (decimal (n / 10)) text at a₁ t₁ → Put (b ∷ []) t₁ a₁ end left → Put (decimal n) text at end left
+  put-last b l e p q = rw (decimal-more n l, ← e) (put-then p q)
 
-pub put-number : (n b : ℕ) {text t₁ t₂ t₃ t₄ later : List ℕ} {at a₁ a₂ a₃ a₄ last : ℕ} → b ≡ digit n 1
-    → Put text at (digitFrom n 10000) a₁ t₁ → Put t₁ a₁ (digitFrom n 1000) a₂ t₂ → Put t₂ a₂ (digitFrom n 100) a₃ t₃
-    → Put t₃ a₃ (digitFrom n 10) a₄ t₄ → Put t₄ a₄ (b ∷ []) last later → Put text at (decimal n) last later
-unfolding decimal
-put-number n b e p q r s u = rw (← e) (put-then (put-then (put-then (put-then p q) r) s) u)
+  pub put-name : (name : List ℕ) → Put name text at a₁ t₁ → Put (decimal n) t₁ a₁ end left → Put (named name n) text at end left
+  unfolding named
+  put-name name p q = put-then p q
+
+  pub put-refused : Put (named (bytes "refused ") n) text at a₁ t₁ → Put (bytes "\n") t₁ a₁ end left → Put (refusal n) text at end left
+  unfolding refusal
+  put-refused p q = put-then p q
 
 -- ---- bytes in base sixteen
 
-pub put-both : (text : List ℕ) (at x a b end : ℕ) (after : List ℕ) (last : ℕ) (later : List ℕ) → a ≡ hexDigit (x / 16) → b ≡ hexDigit (x % 16)
-    → Put text at (a ∷ []) end after → Put after end (b ∷ []) last later → Put text at (hex x) last later
+pub put-both : (x a b : ℕ) {text t₁ left : List ℕ} {at a₁ end : ℕ} → a ≡ hexDigit (x / 16) → b ≡ hexDigit (x % 16)
+    → Put (a ∷ []) text at a₁ t₁ → Put (b ∷ []) t₁ a₁ end left → Put (hex x) text at end left
 unfolding hex
-put-both text at x a b end after last later e f p q = rw (← e, ← f) (put-then p q)
+put-both x a b e f p q = rw (← e, ← f) (put-then p q)
 
-module _ (text : List ℕ) (at : ℕ) (bytes : List ℕ) where
-  pub hexes-begun : at + 2 * length bytes ≤ length text → Put text at (hexes (take 0 bytes)) at text
+module _ (bytes text : List ℕ) (at : ℕ) where
+  pub hexes-begun : at + 2 * length bytes ≤ length text → Put (hexes (take 0 bytes)) text at at text
   unfolding hexes
   hexes-begun room = put-none text at (omega arith)
 
-  module _ (i end : ℕ) (after : List ℕ) (p : Put text at (hexes (take i bytes)) end after) where
+  module _ (i end : ℕ) (after : List ℕ) (p : Put (hexes (take i bytes)) text at end after) where
     -- the next byte has room
     pub hexes-room : at + 2 * length bytes ≤ length text → i < length bytes → end + 2 ≤ length after
     hexes-room room l =
         let size = hexes-size (take i bytes) ∙ ap (λ (n : ℕ). 2 * n) (length-take-le i bytes (omega arith)) in
         omega (arith, put-size p, p .next)
 
-    pub hexes-on : (last : ℕ) (later : List ℕ) → i < length bytes → Put after end (hex (getD bytes i 0)) last later → Put text at (hexes (take (i + 1) bytes)) last later
-    hexes-on last later l q = rw (hexes-more bytes i l) (put-then p q)
+    pub hexes-on : (last : ℕ) (left : List ℕ) → i < length bytes → Put (hex (getD bytes i 0)) after end last left → Put (hexes (take (i + 1) bytes)) text at last left
+    hexes-on last left l q = rw (hexes-more bytes i l) (put-then p q)
 
-    pub hexes-done : length bytes ≤ i → Put text at (hexes bytes) end after
+    pub hexes-done : length bytes ≤ i → Put (hexes bytes) text at end after
     hexes-done l = rw take-all at p

@@ -6,6 +6,7 @@ use borrow.Author.Needs.{needs}
 use lib.Seq.{length-take-le}
 use lib.ListN.{length-append}
 use Rattle.io.proofs.Counting.{counts}
+use Rattle.reader.specs.Head.{wanted-bounds}
 use Rattle.bench.proofs.read_input.Statement.{statement}
 use Rattle.bench.proofs.read_input.Tie as tie
 
@@ -28,13 +29,13 @@ wanted-requires : tie.Need-wanted-requires
 wanted-requires c κs = search needs
 
 sub-read-full : tie.Need-sub-read-full
-sub-read-full c = search needs
+sub-read-full c = let bounds = wanted-bounds _ _ (c .wanted .ensures) in omega arith
 
 part-read-full-start : tie.Need-part-read-full-start
-part-read-full-start c = search needs
+part-read-full-start c = let bounds = wanted-bounds _ _ (c .wanted .ensures) in omega arith
 
 part-read-full-end : tie.Need-part-read-full-end
-part-read-full-end c = search needs
+part-read-full-end c = let bounds = wanted-bounds _ _ (c .wanted .ensures) in omega arith
 
 read-full-requires-2 : tie.Need-read-full-requires-2
 read-full-requires-2 c κs = search needs
@@ -46,7 +47,9 @@ same-length-2 : tie.Need-same-length-2
 same-length-2 c = search needs
 
 returns-2 : tie.Need-returns-2
-returns-2 c = counts _ _ (omega arith)
+returns-2 c =
+    let bounds = wanted-bounds _ _ (c .before .before .before .before .wanted .ensures) in
+    counts _ _ (omega arith)
 
 pub read-input-spec : {M : Type 1} → statement M
 read-input-spec =

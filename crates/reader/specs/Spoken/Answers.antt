@@ -1,6 +1,6 @@
--- What is said of a frame's answer, one law for each return of the code; and that no second answer meets a promise.
+-- What is said of a frame's answer and of an input, one law for each return of the code.
 -- Assumes nothing.
-use mathlib.Core.Path.{_≡_, refl, sym, ap, _∙_}
+use mathlib.Core.Path.{_≡_, refl, sym, ap}
 use mathlib.Core.Bool.{Bool, true, false}
 use mathlib.Core.List.{List, [], _∷_}
 use Prim.Native.Nat.{ℕ, zero, suc, _+_, _-_, _≤_, _<_}
@@ -15,19 +15,21 @@ use Rattle.frame.specs.Frame.{slotCount, areaSize, allowedFrame, ReceiveOutcome
 use Rattle.frame.specs.Frame.Limits.{FrameAllowed, slots-few, area-few}
 use Rattle.frame.specs.declared.setting.Framing.{Framing}
 use Rattle.frame.specs.declared.setting.Received.{Received}
-use Rattle.text.specs.Put.{Put, put-size}
-use Rattle.reader.specs.Lines.{refusal, frameText}
-use Rattle.reader.specs.Spoken.{framingOf, blank, answerTo, told, spoken, Left, textLeft, reported, wantedOf}
+use Rattle.text.specs.Put.{Put}
+use Rattle.text.specs.Text.{refusal}
+use Rattle.reader.specs.Head.{framingOf}
+use Rattle.reader.specs.Lines.{frameText}
+use Rattle.reader.specs.Spoken.{blank, answerTo, told, spoken}
 
 -- ---- what is said of an answer
 
 module _ (depth : ℕ) (r : Received) (area : List ℕ) (o : ReceiveOutcome) (e : answered r area ≡ o) (k : ℕ) (n : k ≡ numberOf (r .verdict)) {text after : List ℕ} {at last : ℕ} where
-  pub told-refused : (k ≡ 0 → ⊥) → Put text at (refusal k) last after → Put text at (told depth o) last after
+  pub told-refused : (k ≡ 0 → ⊥) → Put (refusal k) text at last after → Put (told depth o) text at last after
   unfolding told
   told-refused z p = rw (← e, ← n, ne-eqb k 0 z) p
 
-  pub told-accepted : k ≡ 0 → (payload : List ℕ) → payload ≡ payloadOf r area → Put text at (frameText depth (r .sequence) (r .figures) payload) last after
-      → Put text at (told depth o) last after
+  pub told-accepted : k ≡ 0 → (payload : List ℕ) → payload ≡ payloadOf r area → Put (frameText depth (r .sequence) (r .figures) payload) text at last after
+      → Put (told depth o) text at last after
   unfolding told
   told-accepted z payload h p = rw (← e, ← n, z, ← h) p
 
@@ -58,7 +60,7 @@ module _ (input : List ℕ) where
     unfolding spoken answerTo received told
     spoken-setting a = rw (le-ltb (length input) 4 long, a)
 
--- ---- what is left in the lent text
+-- ---- the work space
 
 -- zeros from the front of zeros
 pub blank-front : (n k : ℕ) → n ≤ k → take n (blank k) ≡ blank n
@@ -66,14 +68,6 @@ unfolding blank
 blank-front zero k l = refl
 blank-front (suc n) zero l = absurd (not-suc-le-zero l)
 blank-front (suc n) (suc k) l = ap (λ (z : List ℕ). 0 ∷ z) (blank-front n k (le-of-suc-le-suc l))
-
--- text written from the front
-pub left-behind : (input text : List ℕ) (r : ℕ) (after : List ℕ) → Put text 0 (spoken input) r after
-    → (textLeft r after ≡ reported input text) × (r ≤ length after)
-unfolding reported
-left-behind input text r after p =
-    let e : 0 + length (spoken input) ≡ length (spoken input) = omega arith in
-    (rw (p .next ∙ e, p .written, e), omega (arith, p .next, p .room, put-size p))
 
 -- a part of the work space is as long as asked
 pub part-size : (n : ℕ) (w : List ℕ) → n ≤ 4080 → length w ≡ 4080 → n ≡ length (take n w)
@@ -85,11 +79,3 @@ pub unmarked : (f : Framing) (slots w₁ w₂ : List ℕ) → FrameAllowed f →
 unfolding answerTo
 unmarked f slots w₁ w₂ l e g =
     rw (e, g, blank-front (slotCount f) 4080 (slots-few f l), blank-front (areaSize f) 4080 (area-few f l))
-
--- ---- no second answer
-
-pub report-once : (input text : List ℕ) (r q : ℕ) (x y : List ℕ) → textLeft r x ≡ reported input text → textLeft q y ≡ reported input text → (r ≡ q) × (x ≡ y)
-report-once input text r q x y p u = (ap (λ (o : Left). o .count) (p ∙ sym u), ap (λ (o : Left). o .text) (p ∙ sym u))
-
-pub wanted-once : (head : List ℕ) (r q : ℕ) → r ≡ wantedOf head → q ≡ wantedOf head → r ≡ q
-wanted-once head r q p u = p ∙ sym u

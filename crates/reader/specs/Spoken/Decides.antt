@@ -8,18 +8,12 @@ use native.Mathlib.Omega.{arith}
 use borrow.Author.Tests.{ltb-true, ltb-false, leb-true, leb-false, le-ltb, ne-eqb}
 use lib.Dec.{ltb, leb}
 use lib.ListN.{length, take, drop, length-drop}
-use lib.Seq.{take-all, getD-take, length-take-le}
+use lib.Seq.{take-all, length-take-le}
 use Rattle.frame.specs.Frame.{slotCount, allowedFrame, received}
-use Rattle.frame.specs.declared.setting.Framing.{Framing}
-use Rattle.reader.specs.Lines.{refusal}
-use Rattle.reader.specs.Spoken.{framingOf, answerTo, told, spoken, wantedOf}
-use Rattle.reader.specs.Spoken.Head.{wanted-short, wanted-refused, wanted-slots}
+use Rattle.reader.specs.Spoken.{answerTo, told, spoken}
+use Rattle.text.specs.Text.{refusal}
+use Rattle.reader.specs.Head.{framingOf, wantedOf, framing-front, wanted-short, wanted-refused, wanted-slots}
 use Rattle.reader.specs.Spoken.Answers.{spoken-setting}
-
--- the setting stands in the first four bytes
-framing-front : (n : ℕ) (input : List ℕ) → 4 ≤ n → framingOf (take n input) ≡ framingOf input
-framing-front n input l =
-    rw (getD-take n input 0 0 (omega arith), getD-take n input 1 0 (omega arith), getD-take n input 2 0 (omega arith), getD-take n input 3 0 (omega arith))
 
 -- a wrong total
 spoken-total : (input : List ℕ) → 4 ≤ length input → allowedFrame (framingOf input) ≡ true → (length (drop 4 input) ≡ slotCount (framingOf input) → ⊥) → refusal 2 ≡ spoken input
@@ -60,21 +54,3 @@ wanted-decides input = go (ltb (length input) 4) (allowedFrame (framingOf input)
         let l = ltb-false (length input) 4 e in
         let m = leb-false (length input) (4 + slotCount (framingOf input) + 1) g in
         rw (← wanted-slots input l f) (by-total input l f _ refl (omega arith))
-
--- the first four bytes tell how much is wanted
-pub wanted-front : (input : List ℕ) → wantedOf (take 4 input) ≡ wantedOf input
-wanted-front input = go (ltb (length input) 4) (allowedFrame (framingOf input)) refl refl
-  where
-    go : (s a : Bool) → ltb (length input) 4 ≡ s → allowedFrame (framingOf input) ≡ a → wantedOf (take 4 input) ≡ wantedOf input
-    go true a e f =
-        let l = ltb-true (length input) 4 e in
-        rw (take-all 4 input (omega arith))
-    go false false e f =
-        let l = ltb-false (length input) 4 e in
-        let size : length (take 4 input) ≡ 4 = length-take-le 4 input l in
-        sym (wanted-refused (take 4 input) (omega arith) (rw (framing-front 4 input (omega arith)) f)) ∙ wanted-refused input l f
-    go false true e f =
-        let l = ltb-false (length input) 4 e in
-        let size : length (take 4 input) ≡ 4 = length-take-le 4 input l in
-        let same = framing-front 4 input (omega arith) in
-        sym (wanted-slots (take 4 input) (omega arith) (rw same f)) ∙ ap (λ (g : Framing). 4 + slotCount g + 1) same ∙ wanted-slots input l f

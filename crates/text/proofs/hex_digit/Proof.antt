@@ -2,7 +2,7 @@
 -- Assumes nothing.
 use native.Mathlib.Omega.{arith}
 use borrow.Author.Needs.{needs}
-use Rattle.text.specs.Text.Laws.{hex-low, hex-high}
+use Rattle.text.specs.Text.Hex.{hex-low, hex-high}
 use Rattle.text.proofs.hex_digit.Statement.{statement}
 use Rattle.text.proofs.hex_digit.Tie as tie
 

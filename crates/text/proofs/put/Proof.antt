@@ -9,13 +9,13 @@ use Rattle.text.proofs.put.Statement.{statement}
 use Rattle.text.proofs.put.Tie as tie
 
 abbrev Inv-loop : tie.InvT-loop
-Inv-loop piece text₀ at i₀ text i = (i ≤ length piece) × Put text₀ at (take i piece) (at + i) text
+Inv-loop piece text₀ at i₀ text i = (i ≤ length piece) × Put (take i piece) text₀ at (at + i) text
 
 abbrev μ-loop : tie.MeasureT-loop
 μ-loop piece text₀ at i₀ text i = length piece - i
 
 loop-holds : tie.Need-loop-holds Inv-loop μ-loop
-loop-holds c = (omega arith, copy-none _ _ (c .args .piece .now) (c .pre))
+loop-holds c = (omega arith, copy-none (c .args .piece .now) _ _ (c .pre))
 
 shared-slice-read-text : tie.Need-shared-slice-read-text Inv-loop μ-loop
 shared-slice-read-text c = omega arith

@@ -22,7 +22,7 @@ same-length c = search needs
 
 returns : tie.Need-returns
 returns c =
-    put-both _ _ _ _ _ _ _ _ _
+    put-both _ _ _
     (c .before .before .before .before .before .before .before .before .before .hex-digit .ensures)
     (c .before .before .before .before .hex-digit2 .ensures)
     (c .before .before .before .before .before .before .before .put-byte .ensures)

@@ -6,18 +6,18 @@ use lib.ListN.{length, take}
 use Rattle.text.specs.Put.{Put, put-size}
 use Rattle.text.specs.Text.{hexes}
 use Rattle.text.specs.Pieces.{hexes-begun, hexes-room, hexes-on, hexes-done}
-use Rattle.text.specs.Text.Laws.{hexes-size}
+use Rattle.text.specs.Text.Hex.{hexes-size}
 use Rattle.text.proofs.put_hexes.Statement.{statement}
 use Rattle.text.proofs.put_hexes.Tie as tie
 
 abbrev Inv-loop : tie.InvT-loop
-Inv-loop bytes text₀ at end₀ i₀ text end i = (i ≤ length bytes) × Put text₀ at (hexes (take i bytes)) end text
+Inv-loop bytes text₀ at end₀ i₀ text end i = (i ≤ length bytes) × Put (hexes (take i bytes)) text₀ at end text
 
 abbrev μ-loop : tie.MeasureT-loop
 μ-loop bytes text₀ at end₀ i₀ text end i = length bytes - i
 
 loop-holds : tie.Need-loop-holds Inv-loop μ-loop
-loop-holds c = (omega arith, hexes-begun _ _ (c .before .before .args .bytes .now) (c .before .before .pre))
+loop-holds c = (omega arith, hexes-begun (c .before .before .args .bytes .now) _ _ (c .before .before .pre))
 
 shared-slice-read-put-hex : tie.Need-shared-slice-read-put-hex Inv-loop μ-loop
 shared-slice-read-put-hex c = omega arith
@@ -39,8 +39,8 @@ same-length c = put-size (c .before .loop .inv .1)
 
 returns : tie.Need-returns Inv-loop μ-loop
 returns c =
-    let p = hexes-done _ _
-    (c .before .before .before .before .args .bytes .now)
+    let p = hexes-done
+    (c .before .before .before .before .args .bytes .now) _ _
     (c .before .loop .i) _ _ (c .before .loop .inv .1) (omega arith) in
     (p, omega (arith, p .next, hexes-size (c .before .before .before .before .args .bytes .now)))
 

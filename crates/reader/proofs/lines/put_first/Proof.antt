@@ -25,13 +25,10 @@ same-length : tie.Need-same-length
 same-length c = search needs
 
 returns : tie.Need-returns
-returns c = (
-  put-opening _ _
-      (c .before .before .before .before .before .before .before .before .before .before .before .put-named .ensures .0)
-      (c .before .before .before .before .before .before .put-named2 .ensures .0)
-      (c .before .before .put-byte .ensures),
-  omega arith,
-)
+returns c =
+    let written = c .before .before in
+    let size = written .before .before .before .before in
+    (put-opening _ _ (size .before .before .before .before .before .put-named .ensures .0) (size .put-named2 .ensures .0) (written .put-byte .ensures), omega arith)
 
 pub put-first-spec : {M : Type 1} → statement M
 put-first-spec =

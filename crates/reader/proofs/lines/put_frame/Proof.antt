@@ -5,9 +5,6 @@ use Rattle.reader.specs.Lines.Laws.{put-accepted}
 use Rattle.reader.proofs.lines.put_frame.Statement.{statement}
 use Rattle.reader.proofs.lines.put_frame.Tie as tie
 
-wide-requires : tie.Need-wide-requires
-wide-requires c κs = search needs
-
 put-first-requires : tie.Need-put-first-requires
 put-first-requires c κs = search needs
 
@@ -25,17 +22,16 @@ same-length c = search needs
 
 returns : tie.Need-returns
 returns c =
-    put-accepted _ _ _ _
-    (rw (c .before .before .before .before .before .before .before .before .before .before .before .before .before .before .before .before .wide .ensures) at (c .before .before .before .before .before .before .before .before .before .before .before .before .before .before .put-first .ensures .0))
-    (c .before .before .before .before .before .before .before .before .before .before .put-words .ensures .0)
-    (c .before .before .before .before .before .before .put-hexes .ensures .0)
-    (c .before .before .put-byte .ensures)
+    let written = c .before .before in
+    let payload = written .before .before .before .before in
+    let words = payload .before .before .before .before in
+    let opening = words .before .before .before .before in
+    put-accepted _ _ _ _ (opening .put-first .ensures .0) (words .put-words .ensures .0) (payload .put-hexes .ensures .0) (written .put-byte .ensures)
 
 pub put-frame-spec : {M : Type 1} → statement M
 put-frame-spec =
     tie.close
     (tie.spec
-    wide-requires
     put-first-requires
     put-words-requires
     put-hexes-requires

@@ -46,20 +46,23 @@ same-length : tie.Need-same-length
 same-length c = search needs
 
 returns : tie.Need-returns
-returns c = (
-  put-figures _
-      (c .before .before .before .before .before .before .before .before .before .before .before .before .before .before .before .before .before .before .before .before .before .before .before .before .before .before .before .before .args .f)
-      _ _ _
-      (c .before .before .before .before .before .before .before .before .before .before .before .before .before .before .before .before .before .before .before .before .wide .ensures)
-      (c .before .before .before .before .before .before .before .before .before .before .before .before .before .before .wide2 .ensures)
-      (c .before .before .before .before .before .before .before .before .wide3 .ensures)
-      (c .before .before .before .before .before .before .before .before .before .before .before .before .before .before .before .before .before .before .before .before .before .before .before .before .put-named .ensures .0)
-      (c .before .before .before .before .before .before .before .before .before .before .before .before .before .before .before .before .before .before .put-named2 .ensures .0)
-      (c .before .before .before .before .before .before .before .before .before .before .before .before .put-named3 .ensures .0)
-      (c .before .before .before .before .before .before .put-named4 .ensures .0)
-      (c .before .before .put-byte .ensures),
-  omega arith,
-)
+returns c =
+    let written = c .before .before in
+    let bits = written .before .before .before .before in
+    let marked = bits .before .before .before .before .before .before in
+    let errors = marked .before .before .before .before .before .before in
+    let number = errors .before .before .before .before .before .before in (
+      put-figures _ _ _ _ _
+          (errors .before .before .wide .ensures .0)
+          (marked .before .before .wide2 .ensures .0)
+          (bits .before .before .wide3 .ensures .0)
+          (number .put-named .ensures .0)
+          (errors .put-named2 .ensures .0)
+          (marked .put-named3 .ensures .0)
+          (bits .put-named4 .ensures .0)
+          (written .put-byte .ensures),
+      omega arith,
+    )
 
 pub put-word-spec : {M : Type 1} → statement M
 put-word-spec =

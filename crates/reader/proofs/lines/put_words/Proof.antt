@@ -10,7 +10,7 @@ use Rattle.reader.proofs.lines.put_words.Statement.{statement}
 use Rattle.reader.proofs.lines.put_words.Tie as tie
 
 abbrev Inv-loop : tie.InvT-loop
-Inv-loop depth text₀ at figures end₀ w₀ text end w = (w ≤ depth) × (end ≤ at + 48 * w) × Put text₀ at (wordLines w figures) end text
+Inv-loop depth text₀ at figures end₀ w₀ text end w = (w ≤ depth) × (end ≤ at + 48 * w) × Put (wordLines w figures) text₀ at end text
 
 abbrev μ-loop : tie.MeasureT-loop
 μ-loop depth text₀ at figures end₀ w₀ text end w = depth - w

@@ -12,9 +12,6 @@ receive-requires c κs = search needs
 number-of-requires : tie.Need-number-of-requires
 number-of-requires c κs = search needs
 
-cast-number : tie.Need-cast-number
-cast-number c = search needs
-
 put-refusal-requires : tie.Need-put-refusal-requires
 put-refusal-requires c κs = search needs
 
@@ -62,7 +59,6 @@ put-answer-spec =
     (tie.spec
     receive-requires
     number-of-requires
-    cast-number
     put-refusal-requires
     same-length
     same-length-2

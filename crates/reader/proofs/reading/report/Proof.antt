@@ -5,7 +5,8 @@ use mathlib.Core.Path.{sym, _∙_}
 use borrow.Author.Needs.{needs}
 use borrow.Author.Tests.{not-true, not-false}
 use Rattle.frame.specs.Frame.Limits.{frame-kept}
-use Rattle.reader.specs.Spoken.Answers.{spoken-short, spoken-setting, spoken-answer, left-behind}
+use Rattle.reader.specs.Promises.{put-reports}
+use Rattle.reader.specs.Spoken.Answers.{spoken-short, spoken-setting, spoken-answer}
 use Rattle.reader.proofs.reading.report.Statement.{statement}
 use Rattle.reader.proofs.reading.report.Tie as tie
 
@@ -13,7 +14,7 @@ put-refusal-requires : tie.Need-put-refusal-requires
 put-refusal-requires c κs = search needs
 
 returns : tie.Need-returns
-returns c = left-behind _ _ _ _ (rw (spoken-short (c .before .before .before .before .args .input .now) (omega arith)) at (c .put-refusal .ensures))
+returns c = put-reports _ _ _ _ (rw (spoken-short (c .before .before .before .before .args .input .now) (omega arith)) at (c .put-refusal .ensures))
 
 framing-requires : tie.Need-framing-requires
 framing-requires c κs = search needs
@@ -25,7 +26,7 @@ put-refusal-requires-2 : tie.Need-put-refusal-requires-2
 put-refusal-requires-2 c κs = search needs
 
 returns-2 : tie.Need-returns-2
-returns-2 c = left-behind _ _ _ _ (rw (spoken-setting (c .before .before .before .before .before .before .before .args .input .now) (omega arith) (rw (c .before .before .before .before .framing .ensures) at (sym (c .before .before .before .is-allowed .ensures) ∙ not-true _ (c .before .before .if2 .taken)))) at (c .put-refusal2 .ensures))
+returns-2 c = put-reports _ _ _ _ (rw (spoken-setting (c .before .before .before .before .before .before .before .args .input .now) (omega arith) (rw (c .before .before .before .before .framing .ensures) at (sym (c .before .before .before .is-allowed .ensures) ∙ not-true _ (c .before .before .if2 .taken)))) at (c .put-refusal2 .ensures))
 
 sub-put-unmarked : tie.Need-sub-put-unmarked
 sub-put-unmarked c = search needs
@@ -41,7 +42,7 @@ put-unmarked-requires c κs = (frame-kept _ (sym (c .before .before .before .is-
 
 returns-3 : tie.Need-returns-3
 returns-3 c =
-    left-behind _ _ _ _
+    put-reports _ _ _ _
     (rw (c .before .before .before .before .before .framing .ensures, spoken-answer (c .before .before .before .before .before .before .before .before .args .input .now) (omega arith)) at (c .put-unmarked .ensures))
 
 pub report-spec : {M : Type 1} → statement M

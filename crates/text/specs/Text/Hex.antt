@@ -1,4 +1,4 @@
--- Which digits of a decimal number are written, and bytes in base sixteen one after the other.
+-- Bytes in base sixteen, one after the other.
 -- Assumes nothing.
 use mathlib.Core.Path.{_≡_, refl}
 use mathlib.Core.List.{List, [], _∷_, _++_}
@@ -8,20 +8,7 @@ use native.Mathlib.Numerals.{add-one}
 use native.Mathlib.Omega.{arith}
 use borrow.Author.Tests.{lt-ltb, le-ltb}
 use lib.ListN.{length, getD, take}
-use Rattle.text.specs.Text.{digit, digitFrom, hexDigit, hex, hexes}
-
--- ---- decimal
-
-module _ (n unit : ℕ) where
-  pub digit-left-out : n < unit → digitFrom n unit ≡ []
-  unfolding digitFrom
-  digit-left-out l = rw (lt-ltb n unit l)
-
-  pub digit-there : unit ≤ n → digitFrom n unit ≡ digit n unit ∷ []
-  unfolding digitFrom
-  digit-there l = rw (le-ltb n unit l)
-
--- ---- base sixteen
+use Rattle.text.specs.Text.{hexDigit, hex, hexes}
 
 pub hex-low : (d : ℕ) → d < 10 → 48 + d ≡ hexDigit d
 unfolding hexDigit

@@ -1,9 +1,9 @@
 -- `put_refusal` meets its contract: the word, the number and the line's end.
 -- Assumes nothing.
 use borrow.Author.Needs.{needs}
-use Rattle.reader.specs.Lines.Laws.{put-refused}
-use Rattle.reader.proofs.lines.put_refusal.Statement.{statement}
-use Rattle.reader.proofs.lines.put_refusal.Tie as tie
+use Rattle.text.specs.Pieces.{put-refused}
+use Rattle.text.proofs.put_refusal.Statement.{statement}
+use Rattle.text.proofs.put_refusal.Tie as tie
 
 slice-aggregate-put-named : tie.Need-slice-aggregate-put-named
 slice-aggregate-put-named c = search needs
@@ -18,7 +18,9 @@ same-length : tie.Need-same-length
 same-length c = search needs
 
 returns : tie.Need-returns
-returns c = put-refused _ (c .before .before .before .before .before .before .put-named .ensures .0) (c .before .before .put-byte .ensures)
+returns c =
+    let written = c .before .before in
+    put-refused _ (written .before .before .before .before .put-named .ensures .0) (written .put-byte .ensures)
 
 pub put-refusal-spec : {M : Type 1} → statement M
 put-refusal-spec =
