@@ -106,7 +106,7 @@ module _ (T F N : Plain) (quiet : (x : Data F) (w : Last (Row F .exit yes) x) �
   abbrev answers : {M : Type 1} (𝓤 : URA M) → Clauses 𝓤 called
   answers 𝓤 κs a = record { ghost = Unit {0}; requires = λ _. emp 𝓤; ensures = λ _ t e. fact 𝓤 (Said (a .0) (a .1 .0) (a .1 .1 .0 .now) (a .1 .1 .1 .0 .now) (a .1 .1 .1 .1 .0 .now) (answer t) (next t) (e .1 .1 .1 .1 .0 .now)) }
 
-  abbrev pub G : {M : Type 1} (𝓤 : URA M) (H : Heap 𝓤) (A : Atoms 𝓤) → Contract 𝓤
+  abbrev G : {M : Type 1} (𝓤 : URA M) (H : Heap 𝓤) (A : Atoms 𝓤) → Contract 𝓤
   G 𝓤 H A = tripleOf 𝓤 H A (called .signature) (closing 𝓤 H A called (answers 𝓤))
 
   -- ---- the caller: its contract and its MIR
@@ -129,7 +129,7 @@ module _ (T F N : Plain) (quiet : (x : Data F) (w : Last (Row F .exit yes) x) �
   abbrev slice : Ty → Ty
   slice τ = tyStruct (38 ∷ 91 ∷ 93 ∷ []) (tcons τ (tcons (tyInt w64) tnil))
 
-  abbrev pub function : Name → Fn
+  abbrev function : Name → Fn
   function g =
       record {
         lifetimes = 4;

@@ -1,5 +1,5 @@
--- The calls on a frame for C (document 01, Block interleaver and frame): the setting, what is seen of an answer, that the place seen is the
--- payload's, and that no call has a second answer.
+-- The calls on a frame for C (document 01, Block interleaver and frame): the setting, what is seen of an answer, what each call promises, that
+-- the place seen is the payload's, and that no call has a second answer.
 -- Assumes nothing.
 use mathlib.Core.Path.{_≡_, refl, ap, _∙_}
 use mathlib.Core.Bool.{Bool}
@@ -41,6 +41,14 @@ frameSeen area t =
       length = length (payloadOf t area);
       figures = t .figures;
     }
+
+-- ---- the promises, each of the call below with what is seen of its answer
+
+abbrev pub FrameSend : FrameSetting → List ℕ → ℕ → List ℕ → ℕ → List ℕ → Type 0
+FrameSend s payload sequence slots r left = Shows sentNumber (λ d. sendOutcome d left ≡ sent (framingOf s) payload sequence slots) r
+
+abbrev pub FrameReceive : FrameSetting → List ℕ → List ℕ → List ℕ → FrameAnswer → List ℕ → Type 0
+FrameReceive s slots marks area r left = Shows (frameSeen left) (λ t. answered t left ≡ received (framingOf s) marks slots area) r
 
 -- ---- laws
 
@@ -86,19 +94,16 @@ payload-place t area = by-verdict (t .verdict)
 
 -- ---- no second answer: of each call's answer, and of what it leaves in the lent slots or area
 
-pub allowed-frame-once : (s : FrameSetting) (r q : Bool) → r ≡ allowedFrame (framingOf s) → q ≡ allowedFrame (framingOf s) → r ≡ q
-allowed-frame-once s r q p u = cc
+pub frame-is-allowed-once : (s : FrameSetting) (r q : Bool) → r ≡ allowedFrame (framingOf s) → q ≡ allowedFrame (framingOf s) → r ≡ q
+frame-is-allowed-once s r q p u = cc
 
-pub send-frame-once : (s : FrameSetting) (payload : List ℕ) (sequence : ℕ) (slots : List ℕ) (r q : ℕ) (x y : List ℕ)
-    → Shows sentNumber (λ d. sendOutcome d x ≡ sent (framingOf s) payload sequence slots) r
-    → Shows sentNumber (λ d. sendOutcome d y ≡ sent (framingOf s) payload sequence slots) q → (r ≡ q) × (x ≡ y)
-send-frame-once s payload sequence slots r q x y p u =
-    let (e, l) = send-once (framingOf s) payload sequence slots (p .inner) (u .inner) x y (p .promised) (u .promised) in
-    (shown-once _ _ _ _ r q p u refl e, l)
+module _ (s : FrameSetting) where
+  pub frame-send-once : (payload : List ℕ) (sequence : ℕ) (slots : List ℕ) (r q : ℕ) (x y : List ℕ) → FrameSend s payload sequence slots r x → FrameSend s payload sequence slots q y → (r ≡ q) × (x ≡ y)
+  frame-send-once payload sequence slots r q x y p u =
+      let (e, l) = send-once _ _ _ _ (p .inner) (u .inner) x y (p .promised) (u .promised) in
+      (shown-once p u refl e, l)
 
-pub receive-frame-once : (s : FrameSetting) (marks slots area : List ℕ) (r q : FrameAnswer) (x y : List ℕ)
-    → Shows (frameSeen x) (λ t. answered t x ≡ received (framingOf s) marks slots area) r
-    → Shows (frameSeen y) (λ t. answered t y ≡ received (framingOf s) marks slots area) q → (r ≡ q) × (x ≡ y)
-receive-frame-once s marks slots area r q x y p u =
-    let (e, l) = receive-once (framingOf s) marks slots area (p .inner) (u .inner) x y (p .promised) (u .promised) in
-    (shown-once _ _ _ _ r q p u (ap frameSeen l) e, l)
+  pub frame-receive-once : (slots marks area : List ℕ) (r q : FrameAnswer) (x y : List ℕ) → FrameReceive s slots marks area r x → FrameReceive s slots marks area q y → (r ≡ q) × (x ≡ y)
+  frame-receive-once slots marks area r q x y p u =
+      let (e, l) = receive-once _ _ _ _ (p .inner) (u .inner) x y (p .promised) (u .promised) in
+      (shown-once p u (ap frameSeen l) e, l)

@@ -1,12 +1,12 @@
--- The receiver's whole call for C (document 01, Receiver's record): what is seen of record and answer after a frame, and that no call has a
--- second answer.
+-- The receiver's whole call for C (document 01, Receiver's record): what is seen of record and answer after a frame, what hearing promises,
+-- and that no call has a second answer.
 -- Assumes nothing.
 use mathlib.Core.Path.{_≡_, ap, ap₂}
 use mathlib.Core.List.{List}
 use Prim.Native.Nat.{ℕ}
 use Rattle.record.specs.declared.Record.{Record}
 use Rattle.link.specs.Receiver.{hearOutcome, heard}
-use Rattle.link.specs.Receiver.Laws.{hear-once}
+use Rattle.link.specs.Receiver.Laws.{hear-once as heard-once}
 use Rattle.link.specs.declared.hearing.Heard.{Heard}
 use Rattle.radio.specs.Shown.{Shows, shown-once}
 use Rattle.radio.specs.Frames.{framingOf, frameSeen}
@@ -23,12 +23,12 @@ bothSeen next answer = record { next = next; answer = answer }
 abbrev pub heardSeen : LentRecord → List ℕ → Heard → HeardAnswer
 heardSeen before area t = bothSeen (recordSeen before (t .next)) (frameSeen area (t .answer))
 
--- ---- no second answer: of each call's answer, and of what it leaves in the lent record and area
+-- `yaxo_hear` answers this, and `yaxo_hear_in` leaves the record and answers the rest
+abbrev pub Hear : LentRecord → FrameSetting → List ℕ → List ℕ → List ℕ → HeardAnswer → List ℕ → Type 0
+Hear h s slots marks area r left = Shows (heardSeen h left) (λ t. hearOutcome (t .answer) (t .next) left ≡ heard (recordOf h) (framingOf s) marks slots area) r
 
--- of `yaxo_hear`'s answer, and of what `yaxo_hear_in` answers and leaves
-pub hear-frame-once : (h : LentRecord) (s : FrameSetting) (marks slots area : List ℕ) (r q : HeardAnswer) (x y : List ℕ)
-    → Shows (heardSeen h x) (λ t. hearOutcome (t .answer) (t .next) x ≡ heard (recordOf h) (framingOf s) marks slots area) r
-    → Shows (heardSeen h y) (λ t. hearOutcome (t .answer) (t .next) y ≡ heard (recordOf h) (framingOf s) marks slots area) q → (r ≡ q) × (x ≡ y)
-hear-frame-once h s marks slots area r q x y p u =
-    let (a, n, l) = hear-once (recordOf h) (framingOf s) marks slots area (p .inner .answer) (u .inner .answer) (p .inner .next) (u .inner .next) x y (p .promised) (u .promised) in
-    (shown-once _ _ _ _ r q p u (ap (heardSeen h) l) (ap₂ (λ (k : Record) (t : _). record { next = k; answer = t }) n a), l)
+-- no second answer, and nothing else is left in the lent record and area
+pub hear-once : (h : LentRecord) (s : FrameSetting) (slots marks area : List ℕ) (r q : HeardAnswer) (x y : List ℕ) → Hear h s slots marks area r x → Hear h s slots marks area q y → (r ≡ q) × (x ≡ y)
+hear-once h s slots marks area r q x y p u =
+    let (a, n, l) = heard-once _ _ _ _ _ (p .inner .answer) (u .inner .answer) (p .inner .next) (u .inner .next) _ _ (p .promised) (u .promised) in
+    (shown-once p u (ap (heardSeen h) l) (ap₂ (λ (k : Record) (t : _). record { next = k; answer = t }) n a), l)

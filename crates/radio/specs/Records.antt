@@ -1,5 +1,5 @@
--- The record's calls for C (document 01, Receiver's record): the record as C lends it, what is seen of the one after a frame, and that no
--- call has a second answer.
+-- The record's calls for C (document 01, Receiver's record): the record as C lends it, what is seen of the one after a frame, what noting
+-- promises, and that no call has a second answer.
 -- Assumes nothing.
 use mathlib.Core.Path.{_≡_, refl, sym}
 use mathlib.Core.Bool.{Bool, true, false, not}
@@ -50,6 +50,11 @@ kindNumber Newer = 0
 kindNumber Repeat = 1
 kindNumber Older = 2
 
+-- ---- the promise: `yaxo_record_note` answers what is seen of the record's own note, and `yaxo_record_note_in` leaves it
+
+abbrev pub RecordNote : LentRecord → ℕ → ℕ → LentRecord → Type 0
+RecordNote h answer new r = Shows (recordSeen h) (Notes (recordOf h) answer new) r
+
 -- ---- laws
 
 -- a fresh record says what the paper's does
@@ -82,14 +87,12 @@ lent-stays h = rw (flag-stays (h .accepted))
 
 -- ---- no second answer: of each call's answer, and of what it leaves in the lent record
 
-pub fresh-record-once : (r q : LentRecord) → r ≡ freshLent → q ≡ freshLent → r ≡ q
-fresh-record-once r q p u = cc
+pub record-fresh-once : (r q : LentRecord) → r ≡ freshLent → q ≡ freshLent → r ≡ q
+record-fresh-once r q p u = cc
 
-pub standing-record-once : (accepted last new r q : ℕ) → r ≡ kindNumber (standing (recordOf (judgedBy accepted last)) new)
+pub record-standing-once : (accepted last new r q : ℕ) → r ≡ kindNumber (standing (recordOf (judgedBy accepted last)) new)
     → q ≡ kindNumber (standing (recordOf (judgedBy accepted last)) new) → r ≡ q
-standing-record-once accepted last new r q p u = cc
+record-standing-once accepted last new r q p u = cc
 
--- of `yaxo_record_note`'s answer, and of the record that `yaxo_record_note_in` leaves
-pub note-record-once : (h : LentRecord) (answer new : ℕ) (r q : LentRecord) → Shows (recordSeen h) (Notes (recordOf h) answer new) r
-    → Shows (recordSeen h) (Notes (recordOf h) answer new) q → r ≡ q
-note-record-once h answer new r q p u = shown-once _ _ _ _ r q p u refl (notes-once (recordOf h) answer new (p .inner) (u .inner) (p .promised) (u .promised))
+pub record-note-once : (h : LentRecord) (answer new : ℕ) (r q : LentRecord) → RecordNote h answer new r → RecordNote h answer new q → r ≡ q
+record-note-once h answer new r q p u = shown-once p u refl (notes-once _ _ _ _ _ (p .promised) (u .promised))

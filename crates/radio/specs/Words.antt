@@ -1,4 +1,5 @@
--- The word code's calls for C (document 01, Word code): the setting, what is seen of an answer, and that no call has a second answer.
+-- The word code's calls for C (document 01, Word code): the setting, what is seen of an answer, what each call promises, and that no call
+-- has a second answer.
 -- Assumes nothing.
 use mathlib.Core.Path.{_≡_, refl}
 use mathlib.Core.Bool.{Bool}
@@ -19,28 +20,34 @@ codeOf s = record { m = s .m; n = s .n; r = s .r; b = s .b }
 abbrev pub decodedSeen : Decoded → WordAnswer
 decodedSeen d = record { answer = numberOf d; figures = figuresOf d }
 
+-- ---- the promises, each of the call below with what is seen of its answer
+
+abbrev pub WordEncode : CodeSetting → List ℕ → List ℕ → ℕ → List ℕ → Type 0
+WordEncode s message word r left = Shows encodedNumber (λ d. encodeOutcome d left ≡ encodes (codeOf s) message word) r
+
+abbrev pub WordDecode : CodeSetting → List ℕ → List ℕ → WordAnswer → List ℕ → Type 0
+WordDecode s received marks r left = Shows decodedSeen (λ d. outcome d left ≡ decoded (codeOf s) marks received) r
+
+abbrev pub WordDecodePart : CodeSetting → List ℕ → List ℕ → List ℕ → WordAnswer → List ℕ → Type 0
+WordDecodePart s received marks part r left = Shows decodedSeen (λ d. outcome d left ≡ decodedPart (codeOf s) marks received part) r
+
 -- ---- no second answer: of each call's answer, and of what it leaves in the lent word or part
 
-pub allowed-word-once : (s : CodeSetting) (r q : Bool) → r ≡ allowed (codeOf s) → q ≡ allowed (codeOf s) → r ≡ q
-allowed-word-once s r q p u = cc
+pub word-is-allowed-once : (s : CodeSetting) (r q : Bool) → r ≡ allowed (codeOf s) → q ≡ allowed (codeOf s) → r ≡ q
+word-is-allowed-once s r q p u = cc
 
-pub encode-word-once : (s : CodeSetting) (message word : List ℕ) (r q : ℕ) (x y : List ℕ)
-    → Shows encodedNumber (λ d. encodeOutcome d x ≡ encodes (codeOf s) message word) r
-    → Shows encodedNumber (λ d. encodeOutcome d y ≡ encodes (codeOf s) message word) q → (r ≡ q) × (x ≡ y)
-encode-word-once s message word r q x y p u =
-    let (e, l) = encode-once (codeOf s) message word (p .inner) (u .inner) x y (p .promised) (u .promised) in
-    (shown-once _ _ _ _ r q p u refl e, l)
+module _ (s : CodeSetting) where
+  pub word-encode-once : (message word : List ℕ) (r q : ℕ) (x y : List ℕ) → WordEncode s message word r x → WordEncode s message word q y → (r ≡ q) × (x ≡ y)
+  word-encode-once message word r q x y p u =
+      let (e, l) = encode-once _ _ _ (p .inner) (u .inner) x y (p .promised) (u .promised) in
+      (shown-once p u refl e, l)
 
-pub decode-word-once : (s : CodeSetting) (marks received : List ℕ) (r q : WordAnswer) (x y : List ℕ)
-    → Shows decodedSeen (λ d. outcome d x ≡ decoded (codeOf s) marks received) r
-    → Shows decodedSeen (λ d. outcome d y ≡ decoded (codeOf s) marks received) q → (r ≡ q) × (x ≡ y)
-decode-word-once s marks received r q x y p u =
-    let (e, l) = decode-once (codeOf s) marks received (p .inner) (u .inner) x y (p .promised) (u .promised) in
-    (shown-once _ _ _ _ r q p u refl e, l)
+  pub word-decode-once : (received marks : List ℕ) (r q : WordAnswer) (x y : List ℕ) → WordDecode s received marks r x → WordDecode s received marks q y → (r ≡ q) × (x ≡ y)
+  word-decode-once received marks r q x y p u =
+      let (e, l) = decode-once _ _ _ (p .inner) (u .inner) x y (p .promised) (u .promised) in
+      (shown-once p u refl e, l)
 
-pub decode-word-part-once : (s : CodeSetting) (marks received part : List ℕ) (r q : WordAnswer) (x y : List ℕ)
-    → Shows decodedSeen (λ d. outcome d x ≡ decodedPart (codeOf s) marks received part) r
-    → Shows decodedSeen (λ d. outcome d y ≡ decodedPart (codeOf s) marks received part) q → (r ≡ q) × (x ≡ y)
-decode-word-part-once s marks received part r q x y p u =
-    let (e, l) = decode-part-once (codeOf s) marks received part (p .inner) (u .inner) x y (p .promised) (u .promised) in
-    (shown-once _ _ _ _ r q p u refl e, l)
+  pub word-decode-part-once : (received marks part : List ℕ) (r q : WordAnswer) (x y : List ℕ) → WordDecodePart s received marks part r x → WordDecodePart s received marks part q y → (r ≡ q) × (x ≡ y)
+  word-decode-part-once received marks part r q x y p u =
+      let (e, l) = decode-part-once _ _ _ _ (p .inner) (u .inner) x y (p .promised) (u .promised) in
+      (shown-once p u refl e, l)

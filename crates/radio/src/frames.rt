@@ -1,8 +1,7 @@
 // Frames for C: the setting, what receiving answers, and the calls. The payload goes back as its place in the lent area.
 ghost use mathlib.Core.Path.{_≡_};
-ghost use Rattle.frame.specs.Frame.{allowedFrame, sentNumber, sendOutcome, sent, answered, received};
-ghost use Rattle.radio.specs.Shown.{Shows};
-ghost use Rattle.radio.specs.Frames.{framingOf, startOf, frameSeen};
+ghost use Rattle.frame.specs.Frame.{allowedFrame};
+ghost use Rattle.radio.specs.Frames.{framingOf, startOf, frameSeen, FrameSend, FrameReceive};
 use frame::numbers::number_of;
 use frame::numbers::sent_number;
 use frame::numbers::word_number;
@@ -97,7 +96,7 @@ pub extern "C" fn yaxo_frame_send(
     sequence: u16,
     slots: &mut [u8],
 ) -> u8
-    ensures { λ r. ⌜ Shows sentNumber (λ d. sendOutcome d (now (slots .exit)) ≡ sent (framingOf framing) (now (payload .entry)) sequence (now (slots .entry))) r ⌝ }
+    ensures { λ r. ⌜ FrameSend framing (now (payload .entry)) sequence (now (slots .entry)) r (now (slots .exit)) ⌝ }
 {
     let d = send(framing_of(framing), payload, sequence, slots);
     sent_number(d)
@@ -111,7 +110,7 @@ pub extern "C" fn yaxo_frame_receive(
     marks: &[u8],
     area: &mut [u8],
 ) -> FrameAnswer
-    ensures { λ r. ⌜ Shows (frameSeen (now (area .exit))) (λ t. answered t (now (area .exit)) ≡ received (framingOf framing) (now (marks .entry)) (now (slots .entry)) (now (area .entry))) r ⌝ }
+    ensures { λ r. ⌜ FrameReceive framing (now (slots .entry)) (now (marks .entry)) (now (area .entry)) r (now (area .exit)) ⌝ }
 {
     let t = receive(framing_of(framing), slots, marks, area);
     frame_answer(t, area)

@@ -1,10 +1,5 @@
 // The receiver's whole call for C: a frame's answer and the record after it are shown as `frames` and `records` show them.
-ghost use mathlib.Core.Path.{_≡_};
-ghost use Rattle.link.specs.Receiver.{hearOutcome, heard};
-ghost use Rattle.radio.specs.Shown.{Shows};
-ghost use Rattle.radio.specs.Frames.{framingOf};
-ghost use Rattle.radio.specs.Records.{recordOf};
-ghost use Rattle.radio.specs.Hearing.{heardSeen, bothSeen};
+ghost use Rattle.radio.specs.Hearing.{bothSeen, Hear};
 use crate::frames::FrameAnswer;
 use crate::frames::FrameSetting;
 use crate::frames::frame_answer;
@@ -30,7 +25,7 @@ pub extern "C" fn yaxo_hear(
     marks: &[u8],
     area: &mut [u8],
 ) -> HeardAnswer
-    ensures { λ r. ⌜ Shows (heardSeen before (now (area .exit))) (λ t. hearOutcome (t .answer) (t .next) (now (area .exit)) ≡ heard (recordOf before) (framingOf framing) (now (marks .entry)) (now (slots .entry)) (now (area .entry))) r ⌝ }
+    ensures { λ r. ⌜ Hear before framing (now (slots .entry)) (now (marks .entry)) (now (area .entry)) r (now (area .exit)) ⌝ }
 {
     let t = hear(record_of(before), framing_of(framing), slots, marks, area);
     let next = record_seen(before, t.next);
@@ -47,7 +42,7 @@ pub extern "C" fn yaxo_hear_in(
     marks: &[u8],
     area: &mut [u8],
 ) -> FrameAnswer
-    ensures { λ r. ⌜ Shows (heardSeen (now (lent .entry)) (now (area .exit))) (λ t. hearOutcome (t .answer) (t .next) (now (area .exit)) ≡ heard (recordOf (now (lent .entry))) (framingOf framing) (now (marks .entry)) (now (slots .entry)) (now (area .entry))) (bothSeen (now (lent .exit)) r) ⌝ }
+    ensures { λ r. ⌜ Hear (now (lent .entry)) framing (now (slots .entry)) (now (marks .entry)) (now (area .entry)) (bothSeen (now (lent .exit)) r) (now (area .exit)) ⌝ }
 {
     let t = yaxo_hear(*lent, framing, slots, marks, area);
     *lent = t.next;

@@ -1,8 +1,6 @@
 // The delay line for C. A line's setting is the caller's and does not change, so only the position goes back, as the cross line's does.
 ghost use mathlib.Core.Path.{_≡_};
-ghost use Rattle.interleave.specs.Promises.{FreshSender, FreshReceiver, SendStep, SendRun, ReceiveStep, ReceiveRun};
-ghost use Rattle.radio.specs.Shown.{Shows};
-ghost use Rattle.radio.specs.Lines.{lineOf, readySeen, sentSeen, receivedSeen};
+ghost use Rattle.radio.specs.Lines.{lineOf, LineFreshSender, LineFreshReceiver, LineSendStep, LineSendRun, LineReceiveStep, LineReceiveRun};
 use cross::Ready;
 use interleave::Line;
 use interleave::fresh_receiver;
@@ -52,7 +50,7 @@ fn line_of(line: LineSetting, position: usize) -> Line
 // A sender that has sent nothing. Answers 0, 1 or 2; refused, the memory stays as it was.
 #[no_mangle]
 pub extern "C" fn yaxo_line_fresh_sender(line: LineSetting, memory: &mut [u8]) -> Ready
-    ensures { λ r. ⌜ Shows readySeen (λ t. FreshSender (line .branches) (line .unit) (line .n) (now (memory .entry)) t (now (memory .exit))) r ⌝ }
+    ensures { λ r. ⌜ LineFreshSender line (now (memory .entry)) r (now (memory .exit)) ⌝ }
 {
     let s = line_of(line, 0);
     let t = fresh_sender(s.branches, s.unit, s.n, memory);
@@ -69,7 +67,7 @@ pub extern "C" fn yaxo_line_fresh_receiver(
     memory: &mut [u8],
     held: &mut [u8],
 ) -> Ready
-    ensures { λ r. ⌜ Shows readySeen (λ t. FreshReceiver (line .branches) (line .unit) (line .n) (now (memory .entry)) (now (held .entry)) t (now (memory .exit)) (now (held .exit))) r ⌝ }
+    ensures { λ r. ⌜ LineFreshReceiver line (now (memory .entry)) (now (held .entry)) r (now (memory .exit)) (now (held .exit)) ⌝ }
 {
     let s = line_of(line, 0);
     let t = fresh_receiver(s.branches, s.unit, s.n, memory, held);
@@ -87,7 +85,7 @@ pub extern "C" fn yaxo_line_send_step(
     memory: &mut [u8],
     byte: u8,
 ) -> LineSent
-    ensures { λ r. ⌜ Shows sentSeen (λ t. SendStep (lineOf line position) (now (memory .entry)) byte t (now (memory .exit))) r ⌝ }
+    ensures { λ r. ⌜ LineSendStep line position (now (memory .entry)) byte r (now (memory .exit)) ⌝ }
 {
     let t = send_step(line_of(line, position), memory, byte);
     LineSent {
@@ -105,7 +103,7 @@ pub extern "C" fn yaxo_line_send_run(
     memory: &mut [u8],
     bytes: &mut [u8],
 ) -> Ready
-    ensures { λ r. ⌜ Shows readySeen (λ t. SendRun (lineOf line position) (now (memory .entry)) (now (bytes .entry)) t (now (memory .exit)) (now (bytes .exit))) r ⌝ }
+    ensures { λ r. ⌜ LineSendRun line position (now (memory .entry)) (now (bytes .entry)) r (now (memory .exit)) (now (bytes .exit)) ⌝ }
 {
     let t = send_run(line_of(line, position), memory, bytes);
     Ready {
@@ -124,7 +122,7 @@ pub extern "C" fn yaxo_line_receive_step(
     byte: u8,
     mark: u8,
 ) -> LineReceived
-    ensures { λ r. ⌜ Shows receivedSeen (λ t. ReceiveStep (lineOf line position) (now (memory .entry)) (now (held .entry)) byte mark t (now (memory .exit)) (now (held .exit))) r ⌝ }
+    ensures { λ r. ⌜ LineReceiveStep line position (now (memory .entry)) (now (held .entry)) byte mark r (now (memory .exit)) (now (held .exit)) ⌝ }
 {
     let t = receive_step(line_of(line, position), memory, held, byte, mark);
     LineReceived {
@@ -145,7 +143,7 @@ pub extern "C" fn yaxo_line_receive_run(
     bytes: &mut [u8],
     marks: &mut [u8],
 ) -> Ready
-    ensures { λ r. ⌜ Shows readySeen (λ t. ReceiveRun (lineOf line position) (now (memory .entry)) (now (held .entry)) (now (bytes .entry)) (now (marks .entry)) t (now (memory .exit)) (now (held .exit)) (now (bytes .exit)) (now (marks .exit))) r ⌝ }
+    ensures { λ r. ⌜ LineReceiveRun line position (now (memory .entry)) (now (held .entry)) (now (bytes .entry)) (now (marks .entry)) r (now (memory .exit)) (now (held .exit)) (now (bytes .exit)) (now (marks .exit)) ⌝ }
 {
     let t = receive_run(line_of(line, position), memory, held, bytes, marks);
     Ready {

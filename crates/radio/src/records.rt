@@ -1,9 +1,7 @@
 // The receiver's record for C: as C lends it, and the calls.
 ghost use mathlib.Core.Path.{_≡_};
 ghost use Rattle.record.specs.Record.{standing};
-ghost use Rattle.record.specs.Promises.{Notes};
-ghost use Rattle.radio.specs.Shown.{Shows};
-ghost use Rattle.radio.specs.Records.{flagAfter, recordOf, recordSeen, freshLent, kindNumber, judgedBy};
+ghost use Rattle.radio.specs.Records.{flagAfter, recordOf, recordSeen, freshLent, kindNumber, judgedBy, RecordNote};
 use record::Kind;
 use record::Record;
 use record::note;
@@ -108,7 +106,7 @@ pub extern "C" fn yaxo_record_standing(accepted: u8, last: u16, sequence: u16) -
 // The record after a frame that was answered so. Only 0, 4 and 5 change it.
 #[no_mangle]
 pub extern "C" fn yaxo_record_note(before: LentRecord, answer: u8, sequence: u16) -> LentRecord
-    ensures { λ r. ⌜ Shows (recordSeen before) (Notes (recordOf before) answer sequence) r ⌝ }
+    ensures { λ r. ⌜ RecordNote before answer sequence r ⌝ }
 {
     let next = note(record_of(before), answer, sequence);
     record_seen(before, next)
@@ -117,7 +115,7 @@ pub extern "C" fn yaxo_record_note(before: LentRecord, answer: u8, sequence: u16
 // The same over a lent record, which is updated where it stands.
 #[no_mangle]
 pub extern "C" fn yaxo_record_note_in(lent: &mut LentRecord, answer: u8, sequence: u16)
-    ensures { λ _. ⌜ Shows (recordSeen (now (lent .entry))) (Notes (recordOf (now (lent .entry))) answer sequence) (now (lent .exit)) ⌝ }
+    ensures { λ _. ⌜ RecordNote (now (lent .entry)) answer sequence (now (lent .exit)) ⌝ }
 {
     *lent = yaxo_record_note(*lent, answer, sequence);
 }

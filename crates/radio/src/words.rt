@@ -1,9 +1,7 @@
 // The word code for C: its setting, what decoding answers, and the calls.
 ghost use mathlib.Core.Path.{_≡_};
 ghost use Rattle.word.specs.Setting.{allowed};
-ghost use Rattle.word.specs.Answers.{outcome, encodeOutcome, encodedNumber, encodes, decoded, decodedPart};
-ghost use Rattle.radio.specs.Shown.{Shows};
-ghost use Rattle.radio.specs.Words.{codeOf, decodedSeen};
+ghost use Rattle.radio.specs.Words.{codeOf, decodedSeen, WordEncode, WordDecode, WordDecodePart};
 use word::Decoded;
 use word::Figures;
 use word::Setting;
@@ -63,7 +61,7 @@ pub extern "C" fn yaxo_word_is_allowed(code: CodeSetting) -> bool
 // Encodes k message symbols to a word of n. Answers 0, 1, 2 or 3; refused, the word stays as it was.
 #[no_mangle]
 pub extern "C" fn yaxo_word_encode(code: CodeSetting, message: &[u8], word: &mut [u8]) -> u8
-    ensures { λ r. ⌜ Shows encodedNumber (λ d. encodeOutcome d (now (word .exit)) ≡ encodes (codeOf code) (now (message .entry)) (now (word .entry))) r ⌝ }
+    ensures { λ r. ⌜ WordEncode code (now (message .entry)) (now (word .entry)) r (now (word .exit)) ⌝ }
 {
     let d = encode(code_of(code), message, word);
     encoded_number(d)
@@ -72,7 +70,7 @@ pub extern "C" fn yaxo_word_encode(code: CodeSetting, message: &[u8], word: &mut
 // Corrects a word where it stands. Answers 0 to 4; refused, the word stays as received.
 #[no_mangle]
 pub extern "C" fn yaxo_word_decode(code: CodeSetting, word: &mut [u8], marks: &[u8]) -> WordAnswer
-    ensures { λ r. ⌜ Shows decodedSeen (λ d. outcome d (now (word .exit)) ≡ decoded (codeOf code) (now (marks .entry)) (now (word .entry))) r ⌝ }
+    ensures { λ r. ⌜ WordDecode code (now (word .entry)) (now (marks .entry)) r (now (word .exit)) ⌝ }
 {
     let d = decode(code_of(code), word, marks);
     word_answer(d)
@@ -86,7 +84,7 @@ pub extern "C" fn yaxo_word_decode_part(
     marks: &[u8],
     part: &mut [u8],
 ) -> WordAnswer
-    ensures { λ r. ⌜ Shows decodedSeen (λ d. outcome d (now (part .exit)) ≡ decodedPart (codeOf code) (now (marks .entry)) (now (received .entry)) (now (part .entry))) r ⌝ }
+    ensures { λ r. ⌜ WordDecodePart code (now (received .entry)) (now (marks .entry)) (now (part .entry)) r (now (part .exit)) ⌝ }
 {
     let d = decode_part(code_of(code), received, marks, part);
     word_answer(d)

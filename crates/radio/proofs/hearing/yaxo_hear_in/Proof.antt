@@ -1,15 +1,11 @@
 -- `yaxo_hear_in` meets its contract: it is the walk of `link`'s `Lent.antt` over `yaxo_hear`, of which it knows only that it meets its own.
 -- Assumes nothing.
-use mathlib.Core.Path.{_≡_, refl}
+use mathlib.Core.Path.{refl}
 use contract.Running.{givenOf, tables, tablesOf}
 use denote.Triple.Spec.{tripleOf}
 use denote.Triple.Table.{entered, cited}
-use Rattle.link.specs.Receiver.{hearOutcome, heard}
 use Rattle.link.proofs.Lent.{Plain, meets}
-use Rattle.radio.specs.Shown.{Shows}
-use Rattle.radio.specs.Frames.{framingOf}
-use Rattle.radio.specs.Records.{recordOf}
-use Rattle.radio.specs.Hearing.{heardSeen, bothSeen}
+use Rattle.radio.specs.Hearing.{bothSeen, Hear}
 use Rattle.radio.proofs.records.LentRecord as T
 use Rattle.radio.proofs.records.LentRecord.Laws as T′
 use Rattle.radio.proofs.frames.FrameSetting as F
@@ -40,5 +36,5 @@ yaxo-hear-in-spec 𝓤 H 𝓜 𝓖 𝓡 =
     let 𝓣 = tables 𝓤 H 𝓜 𝓡 code.env in
     entered 𝓤 H (tripleOf 𝓤 H (𝓖 .A) f.signature (f.spec 𝓤 H (𝓖 .A) (𝓜 .mem) (𝓡 .run))) (𝓣 .C) (𝓣 .Λ) key.name code.function (code.unfolded 𝓤 H 𝓜 𝓡)
     (meets lent framing answer (λ x w. refl) (K.the-type .name) (K.the-type .D) (λ t. t .next) (λ t. t .answer) (K.the-type .to-one)
-    (λ h s slots marks area a next left. Shows (heardSeen h left) (λ t. hearOutcome (t .answer) (t .next) left ≡ heard (recordOf h) (framingOf s) marks slots area) (bothSeen next a)) 𝓤 H (𝓖 .A) (givenOf 𝓤 H 𝓜 𝓖) (tablesOf 𝓤 H 𝓜 𝓣) g-def.name
+    (λ h s slots marks area a next left. Hear h s slots marks area (bothSeen next a) left) 𝓤 H (𝓖 .A) (givenOf 𝓤 H 𝓜 𝓖) (tablesOf 𝓤 H 𝓜 𝓣) g-def.name
     (cited 𝓤 H (tripleOf 𝓤 H (𝓖 .A) g.signature (g.spec 𝓤 H (𝓖 .A) (𝓜 .mem) (𝓡 .run))) 𝓜 𝓡 code.env g-def.name g-def.routine code.calls-radio·hearing·yaxo-hear (g-thm.met 𝓤 H 𝓜 𝓖 𝓡)))

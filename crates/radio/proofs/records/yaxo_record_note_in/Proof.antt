@@ -4,10 +4,8 @@
 use contract.Running.{givenOf, tables, tablesOf}
 use denote.Triple.Spec.{tripleOf}
 use denote.Triple.Table.{entered, cited}
-use Rattle.record.specs.Promises.{Notes}
 use Rattle.record.proofs.Lent.{meets}
-use Rattle.radio.specs.Shown.{Shows}
-use Rattle.radio.specs.Records.{recordOf, recordSeen}
+use Rattle.radio.specs.Records.{RecordNote}
 use Rattle.radio.proofs.records.LentRecord as T
 use Rattle.radio.proofs.records.LentRecord.Laws as T′
 use Rattle.radio.proofs.records.yaxo_record_note as g
@@ -23,5 +21,5 @@ unfolding code.routine tablesOf
 yaxo-record-note-in-spec 𝓤 H 𝓜 𝓖 𝓡 =
     let 𝓣 = tables 𝓤 H 𝓜 𝓡 code.env in
     entered 𝓤 H (tripleOf 𝓤 H (𝓖 .A) f.signature (f.spec 𝓤 H (𝓖 .A) (𝓜 .mem) (𝓡 .run))) (𝓣 .C) (𝓣 .Λ) key.name code.function (code.unfolded 𝓤 H 𝓜 𝓡)
-    (meets T.the-type T′.the-laws (λ h n m t. Shows (recordSeen h) (Notes (recordOf h) n m) t) 𝓤 H (𝓖 .A) (givenOf 𝓤 H 𝓜 𝓖) (tablesOf 𝓤 H 𝓜 𝓣) g-def.name
+    (meets T.the-type T′.the-laws RecordNote 𝓤 H (𝓖 .A) (givenOf 𝓤 H 𝓜 𝓖) (tablesOf 𝓤 H 𝓜 𝓣) g-def.name
     (cited 𝓤 H (tripleOf 𝓤 H (𝓖 .A) g.signature (g.spec 𝓤 H (𝓖 .A) (𝓜 .mem) (𝓡 .run))) 𝓜 𝓡 code.env g-def.name g-def.routine code.calls-radio·records·yaxo-record-note (g-thm.met 𝓤 H 𝓜 𝓖 𝓡)))
