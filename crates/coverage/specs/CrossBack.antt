@@ -14,7 +14,7 @@ use Rattle.word.specs.Word.{errors, marked}
 use Rattle.word.specs.Codeword.{isCodeword, codeword}
 use Rattle.word.specs.Distance.{total-zero, errors-self, bits-self}
 use Rattle.word.specs.Code.{encoded}
-use Rattle.word.specs.Answers.{Outcome, outcome, noFigures, figures}
+use Rattle.word.specs.Answers.{DecodeOutcome, decodeOutcome, noFigures, figures}
 use Rattle.word.specs.declared.Figures.{Figures}
 use Rattle.word.specs.declared.Decoded.the-variants.{Done}
 use Rattle.cross.specs.Cross.{outerCode, innerCode, outerWord, due, opened, passedOn, markOf, orZeros, closed, received}
@@ -39,7 +39,7 @@ pub record CrossArrives (many : ℕ) (messages came : ℕ → List ℕ) : Type 0
 
 -- frame F + 108 is answered 0 with message F, and nothing was left for the outer code to correct
 abbrev pub CrossComesBack : ℕ → (ℕ → List ℕ) → (ℕ → Received) → (ℕ → List ℕ) → Type 0
-CrossComesBack many messages answers back = (F : ℕ) → F + 108 < many → received (answers (F + 108)) (back (F + 108)) ≡ outcome (Done noFigures) (messages F)
+CrossComesBack many messages answers back = (F : ℕ) → F + 108 < many → received (answers (F + 108)) (back (F + 108)) ≡ decodeOutcome (Done noFigures) (messages F)
 
 -- ---- no marks, and no difference
 
@@ -121,12 +121,12 @@ module _ (many : ℕ) (messages came : ℕ → List ℕ) (a : CrossArrives many 
       zero-or-one = zeros-below 32;
     }
 
-    restored : outcome (Done (figures (replicate 32 0) (came F) (a .words F))) (take 28 (a .words F)) ≡ opened (came F)
+    restored : decodeOutcome (Done (figures (replicate 32 0) (came F) (a .words F))) (take 28 (a .words F)) ≡ opened (came F)
     unfolding opened
-    restored = part-given innerCode inner-allowed (replicate 32 0) (came F) (a .words F) came-so (take 28 (came F)) (length-take-le 28 (came F) (omega arith))
+    restored = part-given innerCode inner-allowed (replicate 32 0) (came F) (a .words F) came-so (take 28 (came F)) (length-take-le 28 (came F) (omega arith)) .outcome
 
     passed-on : passedOn (came F) ≡ dueSent messages F
-    passed-on = sym (ap (λ (o : Outcome). o .word) restored) ∙ front many messages (a .words) (a .sent) F h
+    passed-on = sym (ap (λ (o : DecodeOutcome). o .word) restored) ∙ front many messages (a .words) (a .sent) F h
 
     unmarked : markOf (came F) ≡ 0
     unmarked = rw (← restored)
@@ -171,11 +171,11 @@ module _ (many : ℕ) (messages came : ℕ → List ℕ) (a : CrossArrives many 
       zero-or-one = zeros-below 28;
     }
 
-    closing : closed (replicate 28 0) (encoded outerCode (messages F)) (r .given (F + 108)) ≡ outcome (Done noFigures) (messages F)
+    closing : closed (replicate 28 0) (encoded outerCode (messages F)) (r .given (F + 108)) ≡ decodeOutcome (Done noFigures) (messages F)
     unfolding closed
     closing =
-        sym (ap orZeros (part-given outerCode outer-allowed (replicate 28 0) (encoded outerCode (messages F)) (encoded outerCode (messages F)) clean (r .given (F + 108)) (r .given-size (F + 108) h)))
-        ∙ ap₂ (λ (f : Figures) (w : List ℕ). outcome (Done f) w) (no-figures (encoded outerCode (messages F)) word-size) (encoded-message outerCode outer-allowed (messages F) (size many messages (a .words) (a .sent) F (omega arith)) (a .sent .bytes F (omega arith)))
+        sym (ap orZeros (part-given outerCode outer-allowed (replicate 28 0) (encoded outerCode (messages F)) (encoded outerCode (messages F)) clean (r .given (F + 108)) (r .given-size (F + 108) h) .outcome))
+        ∙ ap₂ (λ (f : Figures) (w : List ℕ). decodeOutcome (Done f) w) (no-figures (encoded outerCode (messages F)) word-size) (encoded-message outerCode outer-allowed (messages F) (size many messages (a .words) (a .sent) F (omega arith)) (a .sent .bytes F (omega arith)))
 
   -- Message F comes back with frame F + 108.
   pub cross-comes-back : (answers : ℕ → Received) (back : ℕ → List ℕ) → ReceiverCalls many came answers back → CrossComesBack many messages answers back

@@ -9,7 +9,8 @@ use lib.Dec.{T}
 use Rattle.algebra.specs.Tests.{at, below}
 use Rattle.algebra.specs.Lists.{tabulate}
 use Rattle.word.specs.Setting.{allowed, messageSize}
-use Rattle.word.specs.Answers.{numberOf, outcome, decoded, decodedPart, encodeOutcome, encodes}
+use Rattle.word.specs.Answers.{numberOf}
+use Rattle.word.specs.Promises.{Encodes, Decodes, DecodesPart}
 use Rattle.word.specs.declared.Setting.{Setting}
 use Rattle.word.specs.declared.Encoded.{Encoded}
 use Rattle.word.specs.declared.Decoded.{Decoded}
@@ -54,7 +55,7 @@ pub record WordSent (l : LineSetting) (message word : List ℕ) : Type 0 where
   pub lent : List ℕ
   pub lent-size : length lent ≡ l .n
   pub answer : Encoded
-  pub promise : encodeOutcome answer word ≡ encodes (codeOf l) message lent
+  pub promise : Encodes (codeOf l) message lent answer word
 
 -- the words end to end from step 0, then zeros until the last word has left
 abbrev pub fed : LineSetting → List (List ℕ) → List ℕ
@@ -129,5 +130,5 @@ pub record Accepted (message : List ℕ) (d : Decoded) (given : List ℕ) : Type
 
 -- and it is so by every answer that meets the promise of `decode`, whose word begins with the message, or that of `decode_part` into any k bytes
 pub record WordComesBack (l : LineSetting) (message marks received : List ℕ) : Type 0 where
-  pub in-place : (d : Decoded) (word : List ℕ) → outcome d word ≡ decoded (codeOf l) marks received → Accepted message d (take (messageSize (codeOf l)) word)
-  pub to-part : (d : Decoded) (lent part : List ℕ) → length lent ≡ messageSize (codeOf l) → outcome d part ≡ decodedPart (codeOf l) marks received lent → Accepted message d part
+  pub in-place : (d : Decoded) (word : List ℕ) → Decodes (codeOf l) received marks d word → Accepted message d (take (messageSize (codeOf l)) word)
+  pub to-part : (d : Decoded) (lent part : List ℕ) → length lent ≡ messageSize (codeOf l) → DecodesPart (codeOf l) received marks lent d part → Accepted message d part

@@ -14,6 +14,7 @@ use Rattle.algebra.specs.Lists.{tabulate, tabulated, getD-tabulate, tabulate-sa
 use Rattle.word.specs.Setting.{messageSize}
 use Rattle.word.specs.Code.{encoded}
 use Rattle.word.specs.Codeword.{isCodeword, codeword}
+use Rattle.word.specs.Met.{encodes-gives}
 use Rattle.rings.specs.Marks.{Marks, marks-same}
 use Rattle.interleave.specs.Line.{sent, received, reachable}
 use Rattle.interleave.specs.Setting.{memorySize, lineAt, receiverRefusal, runRefusal, Fine, line-done, receiver-done, run-done}
@@ -28,7 +29,7 @@ use Rattle.coverage.specs.Each.{each-length, each-entry}
 use Rattle.coverage.specs.EndToEnd.{Sized, flatten-length, flatten-at}
 use Rattle.coverage.specs.Places.{line-place, line-found}
 use Rattle.coverage.specs.LineCalls.{Prepared, sender-calls, receiver-calls}
-use Rattle.coverage.specs.Words.{picked, Came, came-in, word-encoded, encoded-code, encoded-message, word-once, word-decoded, part-decoded}
+use Rattle.coverage.specs.Words.{picked, Came, came-in, encoded-code, encoded-message, word-once, word-decoded, part-decoded}
 
 module _ (l : LineSetting) (ok : LineAllowed l) where
   abbrev I : ℕ
@@ -108,7 +109,7 @@ module _ (l : LineSetting) (ok : LineAllowed l) where
     word-sent = each-entry (WordSent l) messages (a .words) [] [] (a .encoding)
 
     word-is : (w : ℕ) → w < length messages → word w ≡ encoded (codeOf l) (message w)
-    word-is w h = let e = word-sent w h in word-encoded (codeOf l) (ok .code) (message w) (e .size) (e .bytes) (e .lent) (word w) (e .answer) (e .lent-size) (e .promise)
+    word-is w h = let e = word-sent w h in encodes-gives (codeOf l) (message w) (e .lent) (record { setting = ok .code; size = e .size; word-size = e .lent-size; small = e .bytes }) (e .promise) .1
 
     word-code : (w : ℕ) → w < length messages → T (isCodeword (codeOf l) (word w))
     word-code w h = let e = word-sent w h in rw (word-is w h) (encoded-code (codeOf l) (ok .code) (message w) (e .size) (e .bytes))

@@ -1,27 +1,25 @@
--- One word whose slots are within the bound: what the promises of `encode` and `decode` say of it.
+-- One word whose slots are within the bound: what the promises of `decode` and `decode_part` say of it.
 -- Assumes nothing.
 use mathlib.Core.Path.{_≡_, refl, sym, ap}
-use mathlib.Core.Bool.{true}
 use mathlib.Core.List.{List}
 use mathlib.Core.Option.{some}
 use Prim.Native.Nat.{ℕ, _^_, _<_}
 use native.Mathlib.Omega.{arith}
 use lib.ListN.{length, take}
 use lib.Dec.{T, lit<}
-use Rattle.algebra.specs.Tests.{at, below, below-at, below-all, passed}
+use Rattle.algebra.specs.Tests.{at, below, below-at, below-all}
 use Rattle.algebra.specs.Lists.{tabulate, length-tabulate, getD-tabulate}
 use Rattle.word.specs.Setting.{allowed, messageSize}
 use Rattle.word.specs.Codeword.{isCodeword, qualifies, codeword, is-near}
 use Rattle.word.specs.Code.{encoded, corrected}
 use Rattle.word.specs.Code.Laws.{qualifies-once, corrected-only, encoded-codeword, encoded-begins}
-use Rattle.word.specs.Answers.{numberOf, outcome, decoded, decodedPart, encodeOutcome, encodes, refusal, sized, proper, figures}
-use Rattle.word.specs.Answers.Laws.{refusal-none, sized-both, decode-found, decode-once, part-found, decode-part-once, encode-done, encode-once}
+use Rattle.word.specs.Answers.{numberOf, figures}
+use Rattle.word.specs.Promises.{Decodes, DecodesPart, decodes-once, decodes-part-once}
+use Rattle.word.specs.Refusals.{Checked}
+use Rattle.word.specs.Met.{decode-found, part-found}
 use Rattle.word.specs.declared.Setting.{Setting}
-use Rattle.word.specs.declared.Figures.{Figures}
 use Rattle.word.specs.declared.Decoded.{Decoded}
 use Rattle.word.specs.declared.Decoded.the-variants.{Done}
-use Rattle.word.specs.declared.Encoded.{Encoded}
-use Rattle.word.specs.declared.Encoded.the-variants as E
 use Rattle.coverage.specs.Channel.{Channel, Within}
 
 -- some slots of a channel, one for each place, are a channel's too
@@ -41,11 +39,6 @@ module _ (n : ℕ) (slot : ℕ → ℕ) {size : ℕ} (slots marks : List ℕ) (c
 
 module _ (s : Setting) (ok : T (allowed s)) where
   module _ (message : List ℕ) (size : length message ≡ messageSize s) (bytes : T (below (2 ^ s .m) message)) where
-    -- what meets the promise of `encode` is the encoding
-    pub word-encoded : (lent word : List ℕ) (d : Encoded) → length lent ≡ s .n → encodeOutcome d word ≡ encodes s message lent → word ≡ encoded s message
-    word-encoded lent word d n e =
-        encode-once s message lent d E.Done word (encoded s message) e (encode-done s message lent (passed _ ok) size n (passed _ bytes) (encoded s message) refl) .1
-
     pub encoded-code : T (isCodeword s (encoded s message))
     encoded-code = encoded-codeword s ok message size bytes
 
@@ -84,28 +77,23 @@ module _ (s : Setting) (ok : T (allowed s)) (marks came : List ℕ) where
     pub word-corrected : corrected s marks came ≡ some sent
     word-corrected = corrected-only s ok marks came (c .size) sent sent-near
 
-    all-proper : proper s marks came ≡ true
-    unfolding proper
-    all-proper = rw (passed (below (2 ^ s .m) came) (c .bytes), passed (below 2 marks) (c .zero-or-one))
-
-    checks : refusal (allowed s) (sized s marks came) (proper s marks came) ≡ 0
-    checks = sym (refusal-none _ _ _ (passed _ ok) (sized-both s marks came (c .size) (c .marks-size)) all-proper)
+    checks : Checked s marks came
+    checks = record { setting = ok; size = c .size; marks-size = c .marks-size; small = c .bytes; marks-small = c .zero-or-one }
 
     -- every answer that meets the promise of `decode` is Done, and leaves the codeword that was sent
-    pub word-decoded : (d : Decoded) (word : List ℕ) → outcome d word ≡ decoded s marks came → (numberOf d ≡ 0) × (word ≡ sent)
-    word-decoded d word e =
-        let own : Figures = figures marks came sent in
-        let (x, y) = decode-once s marks came d (Done own) word sent e (decode-found s marks came checks sent own word-corrected refl) in
+    pub word-decoded : (d : Decoded) (word : List ℕ) → Decodes s came marks d word → (numberOf d ≡ 0) × (word ≡ sent)
+    word-decoded d word p =
+        let (x, y) = decodes-once p (decode-found s came marks checks sent (figures marks came sent) word-corrected refl) in
         (ap numberOf x, y)
 
     -- what `decode_part` promises of it
-    pub part-given : (lent : List ℕ) → length lent ≡ messageSize s → outcome (Done (figures marks came sent)) (take (messageSize s) sent) ≡ decodedPart s marks came lent
-    part-given lent k = part-found s marks came lent k checks sent (figures marks came sent) word-corrected refl
+    pub part-given : (lent : List ℕ) → length lent ≡ messageSize s → DecodesPart s came marks lent (Done (figures marks came sent)) (take (messageSize s) sent)
+    part-given lent k = part-found s came marks lent k checks sent (figures marks came sent) word-corrected refl
 
     -- and every one that meets that of `decode_part` is Done, and leaves its message
-    pub part-decoded : (d : Decoded) (lent part : List ℕ) → length lent ≡ messageSize s → outcome d part ≡ decodedPart s marks came lent → (numberOf d ≡ 0) × (part ≡ take (messageSize s) sent)
-    part-decoded d lent part k e =
-        let (x, y) = decode-part-once s marks came lent d (Done (figures marks came sent)) part (take (messageSize s) sent) e (part-given lent k) in
+    pub part-decoded : (d : Decoded) (lent part : List ℕ) → length lent ≡ messageSize s → DecodesPart s came marks lent d part → (numberOf d ≡ 0) × (part ≡ take (messageSize s) sent)
+    part-decoded d lent part k p =
+        let (x, y) = decodes-part-once p (part-given lent k) in
         (ap numberOf x, y)
 
   -- two codewords that may both come so are one

@@ -9,7 +9,7 @@ use native.Mathlib.Omega.{arith}
 use lib.Dec.{T, lit≤, eqb, eqb→eq, leb, ltb, leb→le, ltb→lt}
 use lib.ListN.{length, replicate}
 use Rattle.algebra.specs.Xor.{_⊕_}
-use Rattle.algebra.specs.Tests.{at, total, each, each-at, below, first, second, passed}
+use Rattle.algebra.specs.Tests.{at, total, each, each-at, below, first, second}
 use Rattle.algebra.specs.Lists.{tabulate}
 use Rattle.field.specs.Field.{times, reduce, product, power}
 use Rattle.field.specs.Answers.{isField}
@@ -18,7 +18,7 @@ use Rattle.word.specs.Word.{valueFrom, errorOf, errors, marked}
 use Rattle.word.specs.Codeword.{isCodeword}
 use Rattle.word.specs.Code.{encoded}
 use Rattle.word.specs.Code.Laws.{encoded-only}
-use Rattle.word.specs.Answers.Laws.{encode-done}
+use Rattle.word.specs.Met.{encode-done}
 use Rattle.word.specs.declared.Encoded.the-variants as E
 use Rattle.rings.specs.Delay.{answer, memory, position, lineOut, lineKept}
 use Rattle.rings.specs.Rings.{ring, tri}
@@ -146,7 +146,7 @@ word-sent message word size bytes e = record {
   lent = replicate 4 0;
   lent-size = refl;
   answer = E.Done;
-  promise = encode-done (codeOf line) message (replicate 4 0) (passed _ (line-allowed .code)) size refl (passed _ bytes) word e;
+  promise = encode-done (codeOf line) message (replicate 4 0) (record { setting = line-allowed .code; size = size; word-size = refl; small = bytes }) word e;
 }
 
 sending : LineSent line (fed line words) sent

@@ -11,7 +11,7 @@ use Rattle.algebra.specs.Lists.{tabulate}
 use Rattle.rings.specs.Refusal.{need, first, ifZero}
 use Rattle.rings.specs.Rings.{ringOut, ringKept}
 use Rattle.rings.specs.Marks.{marks?}
-use Rattle.word.specs.Answers.{Outcome, refused, encodes, decodedPart}
+use Rattle.word.specs.Answers.{DecodeOutcome, refused, encoding, decodingPart}
 use Rattle.word.specs.declared.Setting.{Setting}
 use Rattle.cross.specs.declared.codes.Found.{Found}
 use Rattle.cross.specs.declared.position.Received.{Received}
@@ -28,10 +28,10 @@ innerCode = record { m = 8; n = 32; r = 4; b = 0 }
 
 -- the words that the promise of `encode` gives; the inner one is written over a lent word
 unfoldable pub outerWord : List ℕ → List ℕ
-outerWord message = encodes outerCode message (replicate 28 0) .word
+outerWord message = encoding outerCode message (replicate 28 0) .word
 
 unfoldable pub innerWord : List ℕ → List ℕ → List ℕ
-innerWord bytes lent = encodes innerCode bytes lent .word
+innerWord bytes lent = encoding innerCode bytes lent .word
 
 -- ---- the delays: a unit is 4 frames, and byte i has the ring of i units in the sender, in the receiver that of 27 - i
 
@@ -64,8 +64,8 @@ after once p = put (ℕ-discrete (p + 1) (once + cycle)) once (p + 1)
 
 -- ---- the inner word at the receiver: decoded with no marks into its own first 28 bytes, which stay as received where it is refused
 
-unfoldable pub opened : List ℕ → Outcome
-opened word = decodedPart innerCode (replicate 32 0) word (take 28 word)
+unfoldable pub opened : List ℕ → DecodeOutcome
+opened word = decodingPart innerCode word (replicate 32 0) (take 28 word)
 
 -- the bytes that go on, and the mark of each: 1 where the word is refused
 abbrev pub passedOn : List ℕ → List ℕ
@@ -79,22 +79,22 @@ marksOf word = replicate 28 (markOf word)
 
 -- ---- the outer word at the receiver: its message and figures, or 4 and zeros
 
-abbrev pub orZeros : Outcome → Outcome
+abbrev pub orZeros : DecodeOutcome → DecodeOutcome
 orZeros o = ifZero (o .number) o (refused 4 (replicate 24 0))
 
-unfoldable pub closed : List ℕ → List ℕ → List ℕ → Outcome
-closed marks bytes message = orZeros (decodedPart outerCode marks bytes message)
+unfoldable pub closed : List ℕ → List ℕ → List ℕ → DecodeOutcome
+closed marks bytes message = orZeros (decodingPart outerCode bytes marks message)
 
 -- what a frame that is taken is answered: 7 for the first 108, whatever their words are
-unfoldable pub settled : ℕ → List ℕ → List ℕ → List ℕ → List ℕ → Outcome
+unfoldable pub settled : ℕ → List ℕ → List ℕ → List ℕ → List ℕ → DecodeOutcome
 settled p m ms word message =
     put (decLt p 108) (refused 7 message) (closed (due (unitsOf true) p ms (marksOf word)) (due (unitsOf true) p m (passedOn word)) message)
 
 -- an answer of the code in this paper's terms, with the message bytes it leaves
-abbrev pub found : Found → List ℕ → Outcome
+abbrev pub found : Found → List ℕ → DecodeOutcome
 found r message = record { number = r .answer; figures = r .figures; word = message }
 
-abbrev pub received : Received → List ℕ → Outcome
+abbrev pub received : Received → List ℕ → DecodeOutcome
 received r message = record { number = r .answer; figures = r .figures; word = message }
 
 -- ---- the refusals, in the paper's order: the position 1, each length 2, a mark above 1 in the memory of marks 3

@@ -8,7 +8,7 @@ use native.Mathlib.Omega.{arith}
 use Rattle.algebra.specs.Sets.{put-elim}
 use Rattle.rings.specs.Refusal.{need, ifZero}
 use lib.ListN.{length, replicate}
-use Rattle.word.specs.Answers.{Outcome, noFigures, refused, decodedPart}
+use Rattle.word.specs.Answers.{DecodeOutcome, noFigures, refused, decodingPart}
 use Rattle.cross.specs.Cross.{outerCode, closed, settled, sendRefusal}
 use Rattle.cross.specs.Promises.{ready, Send, refusedReceive, Receive}
 use Rattle.cross.specs.declared.position.Ready.{Ready}
@@ -35,21 +35,21 @@ send-numbers p m message word r left out c =
 
 -- ---- the receiver's figures are 0 under any answer but 0
 
-abbrev Plain : Outcome → Type 0
+abbrev Plain : DecodeOutcome → Type 0
 Plain o = o .number ≢ 0 → o .figures ≡ noFigures
 
-either-plain : (n : ℕ) (a b : Outcome) → Plain a → Plain b → Plain (ifZero n a b)
+either-plain : (n : ℕ) (a b : DecodeOutcome) → Plain a → Plain b → Plain (ifZero n a b)
 either-plain zero a b p q = p
 either-plain (suc n) a b p q = q
 
-done-or-plain : (k : ℕ) (o x : Outcome) → o .number ≡ k → Plain x → Plain (ifZero k o x)
+done-or-plain : (k : ℕ) (o x : DecodeOutcome) → o .number ≡ k → Plain x → Plain (ifZero k o x)
 done-or-plain zero o x e p = λ h. absurd (h e)
 done-or-plain (suc k) o x e p = p
 
 closed-plain : (marks bytes message : List ℕ) → Plain (closed marks bytes message)
 unfolding closed
 closed-plain marks bytes message =
-    let o = decodedPart outerCode marks bytes message in
+    let o = decodingPart outerCode bytes marks message in
     done-or-plain (o .number) o (refused 4 (replicate 24 0)) refl (λ _. refl)
 
 settled-plain : (p : ℕ) (m ms word message : List ℕ) → Plain (settled p m ms word message)

@@ -7,7 +7,7 @@ use Prim.Native.Nat.{ℕ}
 use native.Mathlib.Decide.{ℕ-discrete}
 use lib.ListN.{length, replicate}
 use Rattle.rings.specs.Refusal.{need, ifZero}
-use Rattle.word.specs.Answers.{Outcome, refused}
+use Rattle.word.specs.Answers.{DecodeOutcome, refused}
 use Rattle.cross.specs.Cross.{outerWord, innerWord, unitsOf, due, stored, after, passedOn, marksOf, settled, received, sendRefusal, freshRefusal, receiveRefusal}
 use Rattle.cross.specs.declared.position.Ready.{Ready}
 use Rattle.cross.specs.declared.position.Received.{Received}
@@ -62,10 +62,10 @@ pub record Receive (p : ℕ) (m ms word message : List ℕ) (r : Received) (left
 
 -- answer, figures and position make the whole of what is returned
 same-received : (r s : Received) (x y : List ℕ) → received r x ≡ received s y → r .position ≡ s .position → r ≡ s
-same-received r s x y e g = ap₂ (λ (o : Outcome) (p : ℕ). record { answer = o .number; figures = o .figures; position = p }) e g
+same-received r s x y e g = ap₂ (λ (o : DecodeOutcome) (p : ℕ). record { answer = o .number; figures = o .figures; position = p }) e g
 
 pub receive-once : (p : ℕ) (m ms word message : List ℕ) (r s : Received) (x y u v c d : List ℕ) → Receive p m ms word message r x u c → Receive p m ms word message s y v d
     → (r ≡ s) × (x ≡ y) × (u ≡ v) × (c ≡ d)
 receive-once p m ms word message r s x y u v c d a b =
     let e : received r c ≡ received s d = a .answer ∙ sym (b .answer) in
-    (same-received r s c d e (a .position ∙ sym (b .position)), a .memory ∙ sym (b .memory), a .held ∙ sym (b .held), ap (λ (o : Outcome). o .word) e)
+    (same-received r s c d e (a .position ∙ sym (b .position)), a .memory ∙ sym (b .memory), a .held ∙ sym (b .held), ap (λ (o : DecodeOutcome). o .word) e)

@@ -8,10 +8,10 @@ use Prim.Native.Nat.{ℕ, _<_}
 use lib.ListN.{replicate}
 use Rattle.algebra.specs.Sets.{put-yes, put-no}
 use Rattle.rings.specs.Refusal.{new, kept}
-use Rattle.word.specs.Answers.{Outcome, refused, decodedPart}
+use Rattle.word.specs.Answers.{DecodeOutcome, refused, decodingPart}
 use Rattle.cross.specs.Cross.{outerCode, unitsOf, due, passedOn, marksOf, closed, settled}
 
-module _ (marks bytes message : List ℕ) (o : Outcome) (e : o ≡ decodedPart outerCode marks bytes message) where
+module _ (marks bytes message : List ℕ) (o : DecodeOutcome) (e : o ≡ decodingPart outerCode bytes marks message) where
   pub closed-refused : o .number ≢ 0 → refused 4 (replicate 24 0) ≡ closed marks bytes message
   unfolding closed
   closed-refused h = rw (← e) (kept (o .number) o (refused 4 (replicate 24 0)) h)

@@ -15,9 +15,11 @@ use lib.Seq.{take-at, drop-at, drop-drop, drop-length, getD-set-same, getD-set-o
 use lib.Dec.{T, eqb, ltb}
 use Rattle.algebra.specs.Tests.{if_then_else_, at, below, below-at, below-all, passed, first-none, first-is}
 use Rattle.algebra.specs.Lists.{tabulate, tabulated}
-use Rattle.word.specs.Setting.{allowed, messageSize, allowed-yes}
-use Rattle.word.specs.Answers.{numberOf, figuresOf, noFigures, figures, outcome, decodedPart, sized, proper, refusal}
-use Rattle.word.specs.Answers.Laws.{part-found, part-lost, decode-part-once, refusal-none, sized-both}
+use Rattle.word.specs.Setting.{messageSize, allowed-yes}
+use Rattle.word.specs.Answers.{numberOf, figuresOf, noFigures, figures}
+use Rattle.word.specs.Promises.{DecodesPart, decodes-part-once}
+use Rattle.word.specs.Refusals.{Checked}
+use Rattle.word.specs.Met.{part-found, part-lost}
 use Rattle.word.specs.declared.Figures.{Figures}
 use Rattle.word.specs.declared.Decoded.{Decoded}
 use Rattle.word.specs.declared.Decoded.the-variants as D
@@ -65,35 +67,34 @@ module _ (f : Framing) (w : ℕ) (slots marks part : List ℕ) (g : WordGiven f 
   marks-small = below-all 2 (receivedMarks f marks slots w) λ i l.
       rw (place-rule (f .depth) (f .n) marks i w (omega (arith, length-wordIn (f .depth) (f .n) marks w))) (below-at 2 marks (g .marks-small) (i * f .depth + w) (omega arith))
 
-  all-proper : proper (wordSetting f) (receivedMarks f marks slots w) (receivedWord f marks slots w) ≡ true
-  unfolding proper
-  all-proper = rw (passed (below 256 (receivedWord f marks slots w)) small, passed (below 2 (receivedMarks f marks slots w)) marks-small)
+  checks : Checked (wordSetting f) (receivedMarks f marks slots w) (receivedWord f marks slots w)
+  checks = record {
+    setting = rw (← allowed-yes (wordSetting f) (g .limits .words)) tt;
+    size = length-wordIn (f .depth) (f .n) slots w;
+    marks-size = length-wordIn (f .depth) (f .n) marks w;
+    small = small;
+    marks-small = marks-small;
+  }
 
-  checks : refusal (allowed (wordSetting f)) (sized (wordSetting f) (receivedMarks f marks slots w) (receivedWord f marks slots w)) (proper (wordSetting f) (receivedMarks f marks slots w) (receivedWord f marks slots w)) ≡ 0
-  checks =
-      sym (refusal-none _ _ _ (sym (allowed-yes (wordSetting f) (g .limits .words)))
-      (sized-both (wordSetting f) _ _ (length-wordIn (f .depth) (f .n) slots w) (length-wordIn (f .depth) (f .n) marks w))
-      all-proper)
-
-  decides : (d : Decoded) (after : List ℕ) → outcome d after ≡ decodedPart (wordSetting f) (receivedMarks f marks slots w) (receivedWord f marks slots w) part
+  decides : (d : Decoded) (after : List ℕ) → DecodesPart (wordSetting f) (receivedWord f marks slots w) (receivedMarks f marks slots w) part d after
       → (o : Option (List ℕ)) → correctedWord f marks slots w ≡ o → Decodes f marks slots w (foundOf d) after
   unfolding correctedWord messageOf figuresAt
   decides d after p (some c) e =
       let marked = receivedMarks f marks slots w in
       let word = receivedWord f marks slots w in
       let own : Figures = figures marked word c in
-      let (x, y) = decode-part-once (wordSetting f) marked word part d (D.Done own) after (take (messageSize (wordSetting f)) c) p (part-found (wordSetting f) marked word part (g .part-size) checks c own e refl) in
+      let (x, y) = decodes-part-once p (part-found (wordSetting f) word marked part (g .part-size) checks c own e refl) in
       rw (x, y) (record { found = λ _. (rw e, rw e, rw e); lost = λ z. differ z })
   decides d after p none e =
       let marked = receivedMarks f marks slots w in
       let word = receivedWord f marks slots w in
-      let (x, y) = decode-part-once (wordSetting f) marked word part d D.BeyondReach after part p (part-lost (wordSetting f) marked word part (g .part-size) checks e) in
+      let (x, y) = decodes-part-once p (part-lost (wordSetting f) word marked part (g .part-size) checks e) in
       rw x (record { found = λ z. differ (sym z); lost = λ _. rw e })
 
 -- word w and its marks, taken from their slots, with what the decoder says of them
 pub word-decoded : (f : Framing) (w : ℕ) (slots marks part : List ℕ) → WordGiven f w slots marks (length part) → (word marked after : List ℕ) (d : Decoded)
     → Copied (f .n) (slotByte (f .depth) w slots) word → Copied (f .n) (slotByte (f .depth) w marks) marked
-    → outcome d after ≡ decodedPart (wordSetting f) marked word part → Decodes f marks slots w (foundOf d) after
+    → DecodesPart (wordSetting f) word marked part d after → Decodes f marks slots w (foundOf d) after
 unfolding wordIn
 word-decoded f w slots marks part g word marked after d p q e =
     decides f w slots marks part g (subst (λ (l : List ℕ). T (below 256 l)) (p .entries) (p .small)) d after (rw (p .entries, q .entries) at e) (correctedWord f marks slots w) refl

@@ -10,11 +10,10 @@ use lib.ListN.{length}
 use lib.Dec.{T, eqb}
 use Rattle.algebra.specs.Tests.{if_then_else_, below, passed}
 use Rattle.algebra.specs.Lists.{tabulate, length-tabulate}
-use Rattle.word.specs.Setting.{allowed, messageSize, allowed-yes}
+use Rattle.word.specs.Setting.{messageSize, allowed-yes}
 use Rattle.word.specs.Code.{encoded}
-use Rattle.word.specs.Answers.{Outcome, encodeOutcome, encodes}
-use Rattle.word.specs.Answers.Laws.{encode-done}
-use Rattle.word.specs.declared.Setting.{Setting}
+use Rattle.word.specs.Promises.{Encodes}
+use Rattle.word.specs.Met.{encodes-gives}
 use Rattle.word.specs.declared.Encoded.{Encoded}
 use Rattle.frame.specs.Lists.{part, within, part-entries}
 use Rattle.frame.specs.Slots.{Copied, Placed, Spread, spread-none, spread-more, spread-all}
@@ -42,19 +41,13 @@ pub record Sending (f : Framing) (payload : List ℕ) (sequence w : ℕ) (messag
   pub word-size : length word ≡ f .n
   pub spread : Spread (f .depth) (f .n) (wordSent f payload sequence) w slots
 
--- a message that passes the checks is encoded
-word-encoded : (s : Setting) (message word after : List ℕ) (d : Encoded) → allowed s ≡ true → length message ≡ messageSize s → length word ≡ s .n
-    → T (below (2 ^ s .m) message) → encodeOutcome d after ≡ encodes s message word → after ≡ encoded s message
-word-encoded s message word after d a k n small e =
-    ap (λ (o : Outcome). o .word) (e ∙ sym (encode-done s message word a k n (passed _ small) (encoded s message) refl))
-
 module _ (f : Framing) (payload : List ℕ) (sequence w : ℕ) where
   pub sending-none : (message word slots : List ℕ) → Sends f (length payload) (length message) (length word) (length slots) → Sending f payload sequence 0 message word slots
   sending-none message word slots s = record { turn = omega arith; message-size = s .message-size; word-size = s .word-size; spread = spread-none _ _ _ slots (s .slots-size) }
 
   pub sending-more : FrameAllowed f → length payload + 4 ≤ areaSize f → (old message before after : List ℕ) (d : Encoded) → w < f .depth → length old ≡ messageSize (wordSetting f)
       → length before ≡ f .n → length after ≡ f .n → Copied (length old) (areaByte (areaSent (areaSize f) payload sequence) (w * messageSize (wordSetting f))) message
-      → encodeOutcome d after ≡ encodes (wordSetting f) message before → (slots left : List ℕ) → Placed (f .depth) w after slots (length after) left
+      → Encodes (wordSetting f) message before d after → (slots left : List ℕ) → Placed (f .depth) w after slots (length after) left
       → Spread (f .depth) (f .n) (wordSent f payload sequence) w slots → Sending f payload sequence (w + 1) message after left
   unfolding wordSent
   sending-more a fits old message before after d l k n m c e slots left p s =
@@ -64,7 +57,7 @@ module _ (f : Framing) (payload : List ℕ) (sequence w : ℕ) where
       let own : message ≡ part (messageSize (wordSetting f)) w (areaSent (areaSize f) payload sequence) =
       filled ∙ part-entries (messageSize (wordSetting f)) w (areaSent (areaSize f) payload sequence) (omega (arith, within w (f .depth) (messageSize (wordSetting f)) l)) in
       let full : length message ≡ messageSize (wordSetting f) = ap length filled ∙ length-tabulate _ _ in
-      let word : after ≡ encoded (wordSetting f) message = word-encoded (wordSetting f) message before after d (sym (allowed-yes (wordSetting f) (a .words))) full n (c .small) e in
+      let word : after ≡ encoded (wordSetting f) message = encodes-gives (wordSetting f) message before (record { setting = rw (← allowed-yes (wordSetting f) (a .words)) tt; size = full; word-size = n; small = c .small }) e .1 in
       record {
         turn = omega arith;
         message-size = full;

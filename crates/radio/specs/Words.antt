@@ -6,8 +6,8 @@ use mathlib.Core.Bool.{Bool}
 use mathlib.Core.List.{List}
 use Prim.Native.Nat.{ℕ}
 use Rattle.word.specs.Setting.{allowed}
-use Rattle.word.specs.Answers.{numberOf, figuresOf, encodedNumber, outcome, encodeOutcome, encodes, decoded, decodedPart}
-use Rattle.word.specs.Answers.Laws.{encode-once, decode-once, decode-part-once}
+use Rattle.word.specs.Answers.{numberOf, figuresOf, encodedNumber}
+use Rattle.word.specs.Promises.{Encodes, Decodes, DecodesPart, encodes-once, decodes-once, decodes-part-once}
 use Rattle.word.specs.declared.Setting.{Setting}
 use Rattle.word.specs.declared.Decoded.{Decoded}
 use Rattle.radio.specs.Shown.{Shows, shown-once}
@@ -23,13 +23,13 @@ decodedSeen d = record { answer = numberOf d; figures = figuresOf d }
 -- ---- the promises, each of the call below with what is seen of its answer
 
 abbrev pub WordEncode : CodeSetting → List ℕ → List ℕ → ℕ → List ℕ → Type 0
-WordEncode s message word r left = Shows encodedNumber (λ d. encodeOutcome d left ≡ encodes (codeOf s) message word) r
+WordEncode s message word r left = Shows encodedNumber (λ d. Encodes (codeOf s) message word d left) r
 
 abbrev pub WordDecode : CodeSetting → List ℕ → List ℕ → WordAnswer → List ℕ → Type 0
-WordDecode s received marks r left = Shows decodedSeen (λ d. outcome d left ≡ decoded (codeOf s) marks received) r
+WordDecode s received marks r left = Shows decodedSeen (λ d. Decodes (codeOf s) received marks d left) r
 
 abbrev pub WordDecodePart : CodeSetting → List ℕ → List ℕ → List ℕ → WordAnswer → List ℕ → Type 0
-WordDecodePart s received marks part r left = Shows decodedSeen (λ d. outcome d left ≡ decodedPart (codeOf s) marks received part) r
+WordDecodePart s received marks part r left = Shows decodedSeen (λ d. DecodesPart (codeOf s) received marks part d left) r
 
 -- ---- no second answer: of each call's answer, and of what it leaves in the lent word or part
 
@@ -39,15 +39,15 @@ word-is-allowed-once s r q p u = cc
 module _ (s : CodeSetting) where
   pub word-encode-once : (message word : List ℕ) (r q : ℕ) (x y : List ℕ) → WordEncode s message word r x → WordEncode s message word q y → (r ≡ q) × (x ≡ y)
   word-encode-once message word r q x y p u =
-      let (e, l) = encode-once _ _ _ (p .inner) (u .inner) x y (p .promised) (u .promised) in
+      let (e, l) = encodes-once (p .promised) (u .promised) in
       (shown-once p u refl e, l)
 
   pub word-decode-once : (received marks : List ℕ) (r q : WordAnswer) (x y : List ℕ) → WordDecode s received marks r x → WordDecode s received marks q y → (r ≡ q) × (x ≡ y)
   word-decode-once received marks r q x y p u =
-      let (e, l) = decode-once _ _ _ (p .inner) (u .inner) x y (p .promised) (u .promised) in
+      let (e, l) = decodes-once (p .promised) (u .promised) in
       (shown-once p u refl e, l)
 
   pub word-decode-part-once : (received marks part : List ℕ) (r q : WordAnswer) (x y : List ℕ) → WordDecodePart s received marks part r x → WordDecodePart s received marks part q y → (r ≡ q) × (x ≡ y)
   word-decode-part-once received marks part r q x y p u =
-      let (e, l) = decode-part-once _ _ _ _ (p .inner) (u .inner) x y (p .promised) (u .promised) in
+      let (e, l) = decodes-part-once (p .promised) (u .promised) in
       (shown-once p u refl e, l)

@@ -1,5 +1,5 @@
 -- Document 01, "Numbers a call can answer": this paper's number and values for each answer, and what encoding and decoding answer and
--- leave, for every input.
+-- leave, for every input. Each argument stands where it stands in the call.
 -- Assumes nothing.
 use mathlib.Core.Bool.{Bool, _&&_, not}
 use mathlib.Core.Option.{Option, some, none}
@@ -17,7 +17,6 @@ use Rattle.word.specs.declared.Decoded.{Decoded}
 use Rattle.word.specs.declared.Decoded.the-variants.{Done, BadSetting, BadLength, BadSymbol, BeyondReach}
 use Rattle.word.specs.declared.Encoded.{Encoded}
 use Rattle.word.specs.declared.Encoded.the-variants as E
-pub mod Laws
 
 -- ---- the code's answers in this paper's terms
 
@@ -44,30 +43,45 @@ encodedNumber E.BadSetting = 1
 encodedNumber E.BadLength = 2
 encodedNumber E.BadSymbol = 3
 
--- what a call answers and leaves: its number, its figures and the lent word or part
-pub record Outcome : Type 0 where
+-- what `encode` answers, with the word that it leaves
+pub record EncodeOutcome : Type 0 where
+  pub number : ℕ
+  pub word : List ℕ
+
+abbrev pub encodeOutcome : Encoded → List ℕ → EncodeOutcome
+encodeOutcome d left = record { number = encodedNumber d; word = left }
+
+-- what `decode` and `decode_part` answer, with the word or part that they leave
+pub record DecodeOutcome : Type 0 where
   pub number : ℕ
   pub figures : Figures
   pub word : List ℕ
 
-abbrev pub outcome : Decoded → List ℕ → Outcome
-outcome d w = record { number = numberOf d; figures = figuresOf d; word = w }
+abbrev pub decodeOutcome : Decoded → List ℕ → DecodeOutcome
+decodeOutcome d left = record { number = numberOf d; figures = figuresOf d; word = left }
 
-abbrev pub encodeOutcome : Encoded → List ℕ → Outcome
-encodeOutcome d w = record { number = encodedNumber d; figures = noFigures; word = w }
-
-abbrev pub refused : ℕ → List ℕ → Outcome
-refused k w = record { number = k; figures = noFigures; word = w }
+abbrev pub refused : ℕ → List ℕ → DecodeOutcome
+refused k lent = record { number = k; figures = noFigures; word = lent }
 
 -- ---- the checks, in the order 1, 2, 3; 0 where all are passed
 
 unfoldable pub refusal : Bool → Bool → Bool → ℕ
 refusal setting lengths symbols = if not setting then 1 else if not lengths then 2 else if not symbols then 3 else 0
 
--- what a call leaves unless it is refused
-unfoldable pub unless : ℕ → List ℕ → Outcome → Outcome
-unless zero word o = o
-unless (suc k) word o = refused (suc k) word
+-- what a call does unless a check refuses it
+unfoldable pub unless : {O : Type 0} → ℕ → (ℕ → O) → O → O
+unless zero refuse done = done
+unless (suc k) refuse done = refuse (suc k)
+
+-- ---- encoding
+
+unfoldable pub encodeRefusal : Setting → (message word : List ℕ) → ℕ
+encodeRefusal s message word =
+    refusal (allowed s) (eqb (length message) (messageSize s) && eqb (length word) (s .n)) (below (2 ^ s .m) message)
+
+unfoldable pub encoding : Setting → (message word : List ℕ) → EncodeOutcome
+encoding s message word =
+    unless (encodeRefusal s message word) (λ k. record { number = k; word = word }) (record { number = 0; word = encoded s message })
 
 -- ---- decoding
 
@@ -76,33 +90,27 @@ abbrev pub figures : List ℕ → List ℕ → List ℕ → Figures
 figures marks received c = record { errors = errors marks received c; marked = marked marks received; bits = bits received c }
 
 -- a corrected word goes where `place` puts it; where there is none the answer is 4, and what was lent is left
-abbrev pub settle : (List ℕ → List ℕ) → List ℕ → List ℕ → List ℕ → Option (List ℕ) → Outcome
+abbrev pub settle : (List ℕ → List ℕ) → List ℕ → List ℕ → List ℕ → Option (List ℕ) → DecodeOutcome
 settle place marks received lent none = refused 4 lent
 settle place marks received lent (some c) = record { number = 0; figures = figures marks received c; word = place c }
 
--- both lengths are n
-unfoldable pub sized : Setting → List ℕ → List ℕ → Bool
-sized s marks received = eqb (length received) (s .n) && eqb (length marks) (s .n)
-
--- every symbol is below 2^m, and every mark 0 or 1
-unfoldable pub proper : Setting → List ℕ → List ℕ → Bool
-proper s marks received = below (2 ^ s .m) received && below 2 marks
+-- both lengths are n; every symbol is below 2^m, and every mark 0 or 1
+unfoldable pub decodeRefusal : Setting → (received marks : List ℕ) → ℕ
+decodeRefusal s received marks =
+    refusal (allowed s) (eqb (length received) (s .n) && eqb (length marks) (s .n)) (below (2 ^ s .m) received && below 2 marks)
 
 -- in place: the corrected word is written over the received one
-unfoldable pub decoded : Setting → List ℕ → List ℕ → Outcome
-decoded s marks received =
-    unless (refusal (allowed s) (sized s marks received) (proper s marks received)) received
-    (settle (λ c. c) marks received received (corrected s marks received))
+unfoldable pub decoding : Setting → (received marks : List ℕ) → DecodeOutcome
+decoding s received marks =
+    unless (decodeRefusal s received marks) (λ k. refused k received) (settle (λ c. c) marks received received (corrected s marks received))
+
+-- and the part's length is k
+unfoldable pub partRefusal : Setting → (received marks part : List ℕ) → ℕ
+partRefusal s received marks part =
+    refusal (allowed s) (eqb (length part) (messageSize s) && (eqb (length received) (s .n) && eqb (length marks) (s .n)))
+    (below (2 ^ s .m) received && below 2 marks)
 
 -- the received word only read: the corrected word's k message symbols are written to the lent part
-unfoldable pub decodedPart : Setting → List ℕ → List ℕ → List ℕ → Outcome
-decodedPart s marks received part =
-    unless (refusal (allowed s) (eqb (length part) (messageSize s) && sized s marks received) (proper s marks received)) part
-    (settle (take (messageSize s)) marks received part (corrected s marks received))
-
--- ---- encoding
-
-unfoldable pub encodes : Setting → List ℕ → List ℕ → Outcome
-encodes s message word =
-    unless (refusal (allowed s) (eqb (length message) (messageSize s) && eqb (length word) (s .n)) (below (2 ^ s .m) message)) word
-    (record { number = 0; figures = noFigures; word = encoded s message })
+unfoldable pub decodingPart : Setting → (received marks part : List ℕ) → DecodeOutcome
+decodingPart s received marks part =
+    unless (partRefusal s received marks part) (λ k. refused k part) (settle (take (messageSize s)) marks received part (corrected s marks received))

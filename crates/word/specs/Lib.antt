@@ -1,3 +1,4 @@
+-- What the word code is and promises, in the paper's order ..
 pub mod Setting
 pub mod Figures
 pub mod Word
@@ -5,9 +6,12 @@ pub mod Codeword
 pub mod Search
 pub mod Code
 pub mod Answers
+pub mod Promises
+-- .. and the laws by which it is met and read
+pub mod Refusals
+pub mod Met
 pub mod Means
 pub mod Distance
 pub mod Completion
 pub mod Solution
 pub mod Settled
-pub mod Shown

@@ -57,10 +57,6 @@ unfolding allowed
 allowed-yes s a =
     rw (passed (isField (s .m)) (a .field), le-leb 2 (s .r) (a .low), le-leb (s .r) 16 (a .high), lt-ltb (s .r) (s .n) (a .room), lt-ltb (s .n) (2 ^ s .m) (a .short), le-leb (s .b) 1 (a .start))
 
--- no second answer meets the promise of `is_allowed`
-pub allowed-once : (s : Setting) (r t : Bool) → r ≡ allowed s → t ≡ allowed s → r ≡ t
-allowed-once s r t p q = cc
-
 pub allowed-no : (s : Setting) → (Allowed s → ⊥) → false ≡ allowed s
 allowed-no s h = go (allowed s) refl
   where
@@ -103,9 +99,6 @@ at-most s a = elim (ℕ-discrete (s .m) 3) [
 
 pub has-room : (s : Setting) → allowed s ≡ true → s .r < s .n
 has-room s a = limits s (rw a tt) .room
-
-pub has-few : (s : Setting) → allowed s ≡ true → s .r ≤ 16
-has-few s a = limits s (rw a tt) .high
 
 -- a test of symbols against the code's count of them is the paper's
 pub own-symbols : (s : Setting) → allowed s ≡ true → (q : ℕ) (w : List ℕ) (b : Bool) → q ≡ 2 ^ wide (s .m) → below q w ≡ b → below (2 ^ s .m) w ≡ b

@@ -17,7 +17,7 @@ use Rattle.word.specs.Distance.{errors-self, bits-self}
 use Rattle.word.specs.Code.{corrected}
 use Rattle.word.specs.Code.Laws.{corrected-only, corrected-none}
 use Rattle.word.specs.Answers.{figures}
-use Rattle.word.specs.Answers.Laws.{Checked}
+use Rattle.word.specs.Refusals.{Checked}
 use Rattle.checks.specs.Syndromes.{Syndromes, allZero, allZero-at, allZero-yes}
 use Rattle.decoder.specs.Peeling.{PeeledAll}
 use Rattle.decoder.specs.Elimination.{KernelVector}

@@ -29,7 +29,7 @@ use Rattle.word.specs.Word.{marked}
 use Rattle.word.specs.Codeword.{Codeword, Near}
 use Rattle.word.specs.Distance.{own-field, spots-apart, codeword-sums, marks-few, errors-few}
 use Rattle.word.specs.Completion.{codeword-from}
-use Rattle.word.specs.Answers.Laws.{Checked}
+use Rattle.word.specs.Refusals.{Checked}
 use Rattle.checks.specs.Syndromes.{Syndromes, syndromes-sums}
 use Rattle.decoder.specs.Peeling.{PeeledAll}
 use Rattle.decoder.specs.Elimination.{KernelVector}

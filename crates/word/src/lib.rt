@@ -8,15 +8,16 @@ pub mod settle;
 
 ghost use mathlib.Core.Path.{_≡_};
 ghost use Prim.Native.Nat.{_<_, _≤_};
-ghost use Rattle.word.specs.Answers.{outcome, encodeOutcome, encodes, decoded, decodedPart};
-ghost use Rattle.word.specs.Answers.Laws.{Refuses};
-use buffers::all_below;
+ghost use Rattle.word.specs.Answers.{encodedNumber};
+ghost use Rattle.word.specs.Promises.{Encodes, Decodes, DecodesPart};
+ghost use Rattle.word.specs.Met.{Refuses};
 use buffers::copy;
 use buffers::join;
 use checks::register::check_symbols;
+use limits::decode_refusal;
+use limits::encode_refusal;
 pub use limits::is_allowed;
-use limits::refusal;
-use limits::symbols_of;
+use limits::part_refusal;
 use settle::settle;
 
 // What a word code is set to: m bits a symbol, n symbols a word, r check symbols, and b, the power of a at which its zeros start.
@@ -52,31 +53,38 @@ pub enum Encoded {
     BadSymbol,
 }
 
+// The encoder's answer for a check that failed.
+fn encode_refused(number: u8) -> Encoded
+    requires { ⌜ (0 < number) × (number ≤ 3) ⌝ }
+    ensures { λ d. ⌜ encodedNumber d ≡ number ⌝ }
+{
+    if number == 1 {
+        return Encoded::BadSetting;
+    }
+    if number == 2 {
+        return Encoded::BadLength;
+    }
+    Encoded::BadSymbol
+}
+
 // Puts the k message symbols and the check symbols that make them a codeword into the word of n symbols.
 // Refused 1 for the setting, 2 for a length, 3 for a message symbol of 2^m or more; the word is then left as it was.
 pub fn encode(s: Setting, message: &[u8], word: &mut [u8]) -> Encoded
-    ensures { λ d. ⌜ encodeOutcome d (now (word .exit)) ≡ encodes s (now (message .entry)) (now (word .entry)) ⌝ }
+    ensures { λ d. ⌜ Encodes s (now (message .entry)) (now (word .entry)) d (now (word .exit)) ⌝ }
 {
-    if !is_allowed(s) {
-        return Encoded::BadSetting;
-    }
-    if message.len() != s.n - s.r {
-        return Encoded::BadLength;
-    }
-    if word.len() != s.n {
-        return Encoded::BadLength;
-    }
-    if !all_below(message, symbols_of(s.m)) {
-        return Encoded::BadSymbol;
+    let number = encode_refusal(s, message, word);
+    if number != 0 {
+        return encode_refused(number);
     }
     let checks = check_symbols(s.m, s.b, s.r, message);
     join(message, &checks, word);
     Encoded::Done
 }
 
-// The answer of a check that failed.
-fn refused(number: u8) -> Decoded
-    ensures { λ d. ⌜ ((0 < number) → (number ≤ 3) → Refuses number d) ⌝ }
+// The decoder's answer for a check that failed.
+fn decode_refused(number: u8) -> Decoded
+    requires { ⌜ (0 < number) × (number ≤ 3) ⌝ }
+    ensures { λ d. ⌜ Refuses number d ⌝ }
 {
     if number == 1 {
         return Decoded::BadSetting;
@@ -91,11 +99,11 @@ fn refused(number: u8) -> Decoded
 // Refused 1 for the setting, 2 for a length, 3 for a symbol of 2^m or more or a mark above 1, and 4 where no codeword qualifies; the
 // word is then left as it was.
 pub fn decode(s: Setting, word: &mut [u8], marks: &[u8]) -> Decoded
-    ensures { λ d. ⌜ outcome d (now (word .exit)) ≡ decoded s (now (marks .entry)) (now (word .entry)) ⌝ }
+    ensures { λ d. ⌜ Decodes s (now (word .entry)) (now (marks .entry)) d (now (word .exit)) ⌝ }
 {
-    let number = refusal(s, word, marks);
+    let number = decode_refusal(s, word, marks);
     if number != 0 {
-        return refused(number);
+        return decode_refused(number);
     }
     let mut work: [u8; 255] = [0; 255];
     let answer = settle(s, word, marks, &mut work);
@@ -110,17 +118,11 @@ pub fn decode(s: Setting, word: &mut [u8], marks: &[u8]) -> Decoded
 // The same with the received word only read: the k message symbols of the corrected word go to the lent part. Refused as `decode`
 // is, and 2 for a part that has not k symbols; the part is then left as it was.
 pub fn decode_part(s: Setting, received: &[u8], marks: &[u8], part: &mut [u8]) -> Decoded
-    ensures { λ d. ⌜ outcome d (now (part .exit)) ≡ decodedPart s (now (marks .entry)) (now (received .entry)) (now (part .entry)) ⌝ }
+    ensures { λ d. ⌜ DecodesPart s (now (received .entry)) (now (marks .entry)) (now (part .entry)) d (now (part .exit)) ⌝ }
 {
-    if !is_allowed(s) {
-        return Decoded::BadSetting;
-    }
-    if part.len() != s.n - s.r {
-        return Decoded::BadLength;
-    }
-    let number = refusal(s, received, marks);
+    let number = part_refusal(s, received, marks, part);
     if number != 0 {
-        return refused(number);
+        return decode_refused(number);
     }
     let mut work: [u8; 255] = [0; 255];
     let answer = settle(s, received, marks, &mut work);

@@ -1,9 +1,9 @@
 // The checks that every call makes before it looks at a word: document 01's refusals 1, 2 and 3, in that order.
 ghost use mathlib.Core.Path.{_≡_};
-ghost use Prim.Native.Nat.{_^_};
+ghost use Prim.Native.Nat.{_^_, _≤_};
 ghost use Rattle.field.specs.Elements.{wide};
 ghost use Rattle.word.specs.Setting.{allowed};
-ghost use Rattle.word.specs.Answers.{refusal, sized, proper};
+ghost use Rattle.word.specs.Answers.{encodeRefusal, decodeRefusal, partRefusal};
 use crate::Setting;
 use buffers::all_below;
 use field::is_field;
@@ -43,9 +43,28 @@ pub fn is_allowed(s: Setting) -> bool
     true
 }
 
+// The number by which a message and the word that it is to become are refused, or 0.
+pub fn encode_refusal(s: Setting, message: &[u8], word: &[u8]) -> u8
+    ensures { λ r. ⌜ (r ≡ encodeRefusal s (now (message .entry)) (now (word .entry))) × (r ≤ 3) ⌝ }
+{
+    if !is_allowed(s) {
+        return 1;
+    }
+    if message.len() != s.n - s.r {
+        return 2;
+    }
+    if word.len() != s.n {
+        return 2;
+    }
+    if !all_below(message, symbols_of(s.m)) {
+        return 3;
+    }
+    0
+}
+
 // The number by which a received word and its marks are refused, or 0.
-pub fn refusal(s: Setting, received: &[u8], marks: &[u8]) -> u8
-    ensures { λ r. ⌜ r ≡ refusal (allowed s) (sized s (now (marks .entry)) (now (received .entry))) (proper s (now (marks .entry)) (now (received .entry))) ⌝ }
+pub fn decode_refusal(s: Setting, received: &[u8], marks: &[u8]) -> u8
+    ensures { λ r. ⌜ (r ≡ decodeRefusal s (now (received .entry)) (now (marks .entry))) × (r ≤ 3) ⌝ }
 {
     if !is_allowed(s) {
         return 1;
@@ -63,4 +82,17 @@ pub fn refusal(s: Setting, received: &[u8], marks: &[u8]) -> u8
         return 3;
     }
     0
+}
+
+// The same where the message goes to a part: its length stands before the symbols.
+pub fn part_refusal(s: Setting, received: &[u8], marks: &[u8], part: &[u8]) -> u8
+    ensures { λ r. ⌜ (r ≡ partRefusal s (now (received .entry)) (now (marks .entry)) (now (part .entry))) × (r ≤ 3) ⌝ }
+{
+    if !is_allowed(s) {
+        return 1;
+    }
+    if part.len() != s.n - s.r {
+        return 2;
+    }
+    decode_refusal(s, received, marks)
 }

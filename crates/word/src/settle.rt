@@ -3,7 +3,7 @@ ghost use mathlib.Core.Path.{_≡_};
 ghost use mathlib.Core.Bool.{false};
 ghost use Prim.Native.Nat.{_*_, _≤_};
 ghost use lib.ListN.{length, take};
-ghost use Rattle.word.specs.Answers.Laws.{Checked};
+ghost use Rattle.word.specs.Refusals.{Checked};
 ghost use Rattle.word.specs.Settled.{Repaired, Found, Measured, Settles};
 use crate::Figures;
 use crate::Setting;

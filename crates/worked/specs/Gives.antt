@@ -9,7 +9,7 @@ use lib.ListN.{length}
 use Rattle.field.specs.Answers.{productOf}
 use Rattle.field.specs.declared.Element.{Element}
 use Rattle.field.specs.declared.Element.the-variants.{Is}
-use Rattle.word.specs.Answers.{outcome, encodeOutcome, encodes, decoded}
+use Rattle.word.specs.Promises.{Encodes, Decodes}
 use Rattle.word.specs.declared.Setting.{Setting}
 use Rattle.word.specs.declared.Encoded.{Encoded}
 use Rattle.word.specs.declared.Encoded.the-variants as E
@@ -29,32 +29,30 @@ abbrev pub Multiplies : (m x y z : ℕ) → Type 0
 Multiplies m x y z = (r : Element) → r ≡ productOf m x y → r ≡ Is z
 
 -- `encode`: the message becomes this word, whatever the word held
-abbrev pub Encodes : Setting → (message word : List ℕ) → Type 0
-Encodes s message word =
-    (held left : List ℕ) (d : Encoded) → length held ≡ s .n → encodeOutcome d left ≡ encodes s message held → (d ≡ E.Done) × (left ≡ word)
+abbrev pub EncodesTo : Setting → (message word : List ℕ) → Type 0
+EncodesTo s message word = (held left : List ℕ) (d : Encoded) → length held ≡ s .n → Encodes s message held d left → (d ≡ E.Done) × (left ≡ word)
 
 -- `decode`: the received word has this answer, and is this word afterwards
-abbrev pub Decodes : Setting → (received marks : List ℕ) → Decoded → (word : List ℕ) → Type 0
-Decodes s received marks answer word =
-    (left : List ℕ) (d : Decoded) → outcome d left ≡ decoded s marks received → (d ≡ answer) × (left ≡ word)
+abbrev pub DecodesTo : Setting → (received marks : List ℕ) → Decoded → (word : List ℕ) → Type 0
+DecodesTo s received marks answer word = (left : List ℕ) (d : Decoded) → Decodes s received marks d left → (d ≡ answer) × (left ≡ word)
 
 abbrev pub accepted : (e f bits : ℕ) → Decoded
 accepted e f bits = Done (record { errors = e; marked = f; bits = bits })
 
 -- `spread`: the words go to these slots, whatever the slots held
-abbrev pub Spreads : (J n : ℕ) → (words slots : List ℕ) → Type 0
-Spreads J n words slots = (held left : List ℕ) (r : ℕ) → length held ≡ J * n → Spread J n words held r left → (r ≡ 0) × (left ≡ slots)
+abbrev pub SpreadsTo : (J n : ℕ) → (words slots : List ℕ) → Type 0
+SpreadsTo J n words slots = (held left : List ℕ) (r : ℕ) → length held ≡ J * n → Spread J n words held r left → (r ≡ 0) × (left ≡ slots)
 
 -- `fresh_sender`, and then `send_run`: what is put in comes out as this, whatever the memory held
-abbrev pub Sends : (I M n : ℕ) → (bytes out : List ℕ) → Type 0
-Sends I M n bytes out =
+abbrev pub SendsTo : (I M n : ℕ) → (bytes out : List ℕ) → Type 0
+SendsTo I M n bytes out =
     (held fresh kept left : List ℕ) (r s : Ready) → length held ≡ memorySize I M
     → FreshSender I M n held r fresh → SendRun (r .line) fresh bytes s kept left
     → (s .answer ≡ 0) × (left ≡ out)
 
 -- `fresh_receiver`, and then `receive_run`: bytes and marks come out as these, whatever the memories held
-abbrev pub Receives : (I M n : ℕ) → (bytes marks out flags : List ℕ) → Type 0
-Receives I M n bytes marks out flags =
+abbrev pub ReceivesTo : (I M n : ℕ) → (bytes marks out flags : List ℕ) → Type 0
+ReceivesTo I M n bytes marks out flags =
     (held heldMarks fresh freshMarks kept keptMarks left leftMarks : List ℕ) (r s : Ready) → length held ≡ memorySize I M → length heldMarks ≡ memorySize I M
     → FreshReceiver I M n held heldMarks r fresh freshMarks → ReceiveRun (r .line) fresh freshMarks bytes marks s kept keptMarks left leftMarks
     → (s .answer ≡ 0) × (left ≡ out) × (leftMarks ≡ flags)

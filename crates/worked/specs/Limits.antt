@@ -13,8 +13,10 @@ use lib.ListN.{length}
 use Rattle.field.specs.Answers.{isField}
 use Rattle.word.specs.Setting.{Allowed, allowed, allowed-yes, allowed-no}
 use Rattle.word.specs.Code.{corrected}
-use Rattle.word.specs.Answers.{Outcome, outcome, encodeOutcome, encodes, decoded, decodedPart, refusal, unless, settle}
-use Rattle.word.specs.Answers.Laws.{decode-refused, part-setting, encode-setting, refusal-setting, decode-once, decode-part-once, encode-once}
+use Rattle.word.specs.Answers.{EncodeOutcome, DecodeOutcome, refusal, unless, encodeRefusal, encoding, settle, decodeRefusal, decoding, partRefusal, decodingPart}
+use Rattle.word.specs.Promises.{Encodes, Decodes, DecodesPart, encodes-once, decodes-once, decodes-part-once}
+use Rattle.word.specs.Refusals.{encode-setting, decode-setting, part-setting}
+use Rattle.word.specs.Met.{encode-refused, decode-refused, part-refused}
 use Rattle.word.specs.declared.Setting.{Setting}
 use Rattle.word.specs.declared.Encoded.{Encoded}
 use Rattle.word.specs.declared.Encoded.the-variants as E
@@ -32,15 +34,15 @@ use Rattle.worked.specs.Slots.{sender-stands, receiver-stands}
 
 -- no call of the word code answers 1
 pub record Stands (s : Setting) : Type 0 where
-  pub encode : (message held left : List ℕ) (d : Encoded) → encodeOutcome d left ≡ encodes s message held → d ≢ E.BadSetting
-  pub decode : (received marks left : List ℕ) (d : Decoded) → outcome d left ≡ decoded s marks received → d ≢ BadSetting
-  pub decode-part : (received marks part left : List ℕ) (d : Decoded) → outcome d left ≡ decodedPart s marks received part → d ≢ BadSetting
+  pub encode : (message held left : List ℕ) (d : Encoded) → Encodes s message held d left → d ≢ E.BadSetting
+  pub decode : (received marks left : List ℕ) (d : Decoded) → Decodes s received marks d left → d ≢ BadSetting
+  pub decode-part : (received marks part left : List ℕ) (d : Decoded) → DecodesPart s received marks part d left → d ≢ BadSetting
 
 -- each answers 1 and leaves its buffer
 pub record Refused (s : Setting) : Type 0 where
-  pub encode : (message held left : List ℕ) (d : Encoded) → encodeOutcome d left ≡ encodes s message held → (d ≡ E.BadSetting) × (left ≡ held)
-  pub decode : (received marks left : List ℕ) (d : Decoded) → outcome d left ≡ decoded s marks received → (d ≡ BadSetting) × (left ≡ received)
-  pub decode-part : (received marks part left : List ℕ) (d : Decoded) → outcome d left ≡ decodedPart s marks received part → (d ≡ BadSetting) × (left ≡ part)
+  pub encode : (message held left : List ℕ) (d : Encoded) → Encodes s message held d left → (d ≡ E.BadSetting) × (left ≡ held)
+  pub decode : (received marks left : List ℕ) (d : Decoded) → Decodes s received marks d left → (d ≡ BadSetting) × (left ≡ received)
+  pub decode-part : (received marks part left : List ℕ) (d : Decoded) → DecodesPart s received marks part d left → (d ≡ BadSetting) × (left ≡ part)
 
 -- a delay line can be made fresh, in memories of its length
 pub record LineStands (I M n : ℕ) : Type 0 where
@@ -78,32 +80,37 @@ pub record Limits : Type 0 where
 -- ---- laws: the word code
 
 -- an outcome that passes the setting's check, and whose own number is not 1
-past : (l p : Bool) (word : List ℕ) (o : Outcome) → o .number ≢ 1 → unless (refusal true l p) word o .number ≢ 1
+past : {O : Type 0} (number : O → ℕ) (refuse : ℕ → O) → ((k : ℕ) → number (refuse k) ≡ k) → (l p : Bool) (o : O) → number o ≢ 1
+    → number (unless (refusal true l p) refuse o) ≢ 1
 unfolding refusal unless
-past false p word o h e = omega arith
-past true false word o h e = omega arith
-past true true word o h e = h e
+past number refuse f false p o h e = omega (arith, f 2)
+past number refuse f true false o h e = omega (arith, f 3)
+past number refuse f true true o h e = h e
 
-settled : (place : List ℕ → List ℕ) (marks received lent : List ℕ) (o : Option (List ℕ)) → settle place marks received lent o .number ≢ 1
-settled place marks received lent none e = omega arith
-settled place marks received lent (some c) e = omega arith
+not-one : _≢_ {A = ℕ} 0 1
+not-one e = omega arith
+
+corrects : (place : List ℕ → List ℕ) (marks received lent : List ℕ) (o : Option (List ℕ)) → settle place marks received lent o .number ≢ 1
+corrects place marks received lent none e = omega arith
+corrects place marks received lent (some c) e = omega arith
 
 stands : (s : Setting) → true ≡ allowed s → Stands s
-unfolding encodes decoded decodedPart
+unfolding encodeRefusal encoding decodeRefusal decoding partRefusal decodingPart
 stands s a = record {
-  encode = λ message held left d p e. past _ _ held _ (λ z. omega arith) (rw (← a, e) at (sym (ap (λ (o : Outcome). o .number) p)));
-  decode = λ received marks left d p e. past _ _ received _ (settled _ _ _ _ (corrected s marks received)) (rw (← a, e) at (sym (ap (λ (o : Outcome). o .number) p)));
-  decode-part = λ received marks part left d p e. past _ _ part _ (settled _ _ _ _ (corrected s marks received)) (rw (← a, e) at (sym (ap (λ (o : Outcome). o .number) p)));
+  encode = λ message held left d p e. past (λ (o : EncodeOutcome). o .number) _ (λ k. refl) _ _ _ not-one (rw (← a, e) at (sym (ap (λ (o : EncodeOutcome). o .number) (p .outcome))));
+  decode = λ received marks left d p e. past (λ (o : DecodeOutcome). o .number) _ (λ k. refl) _ _ _ (corrects _ _ _ _ (corrected s marks received)) (rw (← a, e) at (sym (ap (λ (o : DecodeOutcome). o .number) (p .outcome))));
+  decode-part = λ received marks part left d p e. past (λ (o : DecodeOutcome). o .number) _ (λ k. refl) _ _ _ (corrects _ _ _ _ (corrected s marks received)) (rw (← a, e) at (sym (ap (λ (o : DecodeOutcome). o .number) (p .outcome))));
 }
 
 refused : (s : Setting) → (Allowed s → ⊥) → Refused s
 refused s h =
     let a : allowed s ≡ false = sym (allowed-no s h) in
     record {
-      encode = λ message held left d p. encode-once s message held d E.BadSetting left held p (encode-setting s message held a);
-      decode = λ received marks left d p. decode-once s marks received d BadSetting left received p
-          (decode-refused s marks received 1 BadSetting (refusal-setting _ _ _ a) (lit≤ tt) (record { number = refl; none = refl }));
-      decode-part = λ received marks part left d p. decode-part-once s marks received part d BadSetting left part p (part-setting s marks received part a);
+      encode = λ message held left d p. encodes-once p (encode-refused s message held 1 E.BadSetting (encode-setting s message held a) (lit≤ tt) refl);
+      decode = λ received marks left d p. decodes-once p
+          (decode-refused s received marks 1 BadSetting (decode-setting s received marks a) (lit≤ tt) (record { number = refl; none = refl }));
+      decode-part = λ received marks part left d p. decodes-part-once p
+          (part-refused s received marks part 1 BadSetting (part-setting s received marks part a) (lit≤ tt) (record { number = refl; none = refl }));
     }
 
 -- ---- laws: the delay line

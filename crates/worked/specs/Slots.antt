@@ -14,9 +14,9 @@ use Rattle.interleave.specs.Steps.{blank}
 use Rattle.interleave.specs.Promises.{SendRun, ReceiveRun}
 use Rattle.interleave.specs.Calls.{sends-run, receives-run}
 use Rattle.interleave.specs.declared.line.Ready.{Ready}
-use Rattle.worked.specs.Gives.{Spreads, Sends, Receives}
+use Rattle.worked.specs.Gives.{SpreadsTo, SendsTo, ReceivesTo}
 
-pub spreads : (J n : ℕ) (words : List ℕ) → BlockSetting J n → length words ≡ J * n → Spreads J n words (spread J n words)
+pub spreads : (J n : ℕ) (words : List ℕ) → BlockSetting J n → length words ≡ J * n → SpreadsTo J n words (spread J n words)
 spreads J n words fits e held left r k p =
     let done : r ≡ 0 = p .answer ∙ block-done J n (length words) (length held) (record { setting = fits; from = e; to = k }) in
     (done, rw done at (p .buffer))
@@ -34,7 +34,7 @@ module _ (I M n : ℕ) (t : Setting I M n) where
   pub receiver-stands : (size marks : ℕ) → size ≡ memorySize I M → marks ≡ size → receiverRefusal (lineAt I M n 0) size marks ≡ 0
   receiver-stands size marks e g = receiver-done (lineAt I M n 0) size marks (fine size e) g
 
-  pub sends : (bytes : List ℕ) → Sends I M n bytes (tabulate (length bytes) (sent I M (λ v. getD bytes v 0)))
+  pub sends : (bytes : List ℕ) → SendsTo I M n bytes (tabulate (length bytes) (sent I M (λ v. getD bytes v 0)))
   sends bytes held fresh kept left r s e p q =
       let none : lineRefusal (lineAt I M n 0) (length held) ≡ 0 = sender-stands (length held) e in
       let line : r .line ≡ lineAt I M n 0 = ap (λ (z : Ready). z .line) (p .answer) in
@@ -43,7 +43,7 @@ module _ (I M n : ℕ) (t : Setting I M n) where
       sends-run I M n t bytes s kept left run
 
   pub receives : (bytes marks : List ℕ) → length marks ≡ length bytes → Marks marks
-      → Receives I M n bytes marks (tabulate (length bytes) (received I M 0 (λ v. getD bytes v 0))) (tabulate (length bytes) (received I M 1 (λ v. getD marks v 0)))
+      → ReceivesTo I M n bytes marks (tabulate (length bytes) (received I M 0 (λ v. getD bytes v 0))) (tabulate (length bytes) (received I M 1 (λ v. getD marks v 0)))
   receives bytes marks same small held heldMarks fresh freshMarks kept keptMarks left leftMarks r s e g p q =
       let none : receiverRefusal (lineAt I M n 0) (length held) (length heldMarks) ≡ 0 = receiver-stands (length held) (length heldMarks) e (omega arith) in
       let line : r .line ≡ lineAt I M n 0 = ap (λ (z : Ready). z .line) (p .answer) in

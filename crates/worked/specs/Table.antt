@@ -13,7 +13,7 @@ use Rattle.field.specs.Answers.{isField, isElement, productOf}
 use Rattle.word.specs.Setting.{allowed}
 use Rattle.word.specs.Word.{valueFrom, errorOf, errors, marked, bits}
 use Rattle.word.specs.Codeword.{isCodeword, qualifies}
-use Rattle.word.specs.Answers.{refusal, sized, proper}
+use Rattle.word.specs.Answers.{refusal, decodeRefusal}
 use Rattle.word.specs.declared.Setting.{Setting}
 use Rattle.word.specs.declared.Decoded.the-variants.{BeyondReach}
 use Rattle.rings.specs.Rings.{ring, tri}
@@ -24,7 +24,7 @@ use Rattle.interleave.specs.Line.{common, period}
 use Rattle.interleave.specs.Setting as line
 use Rattle.record.specs.Order.{compared}
 use Rattle.record.specs.declared.Kind.the-variants.{Newer, Older}
-use Rattle.worked.specs.Gives.{Multiplies, Encodes, Decodes, accepted, Spreads, Sends, Receives, Judges}
+use Rattle.worked.specs.Gives.{Multiplies, EncodesTo, DecodesTo, accepted, SpreadsTo, SendsTo, ReceivesTo, Judges}
 use Rattle.worked.specs.Words.{made, found, lost}
 use Rattle.worked.specs.Far.{codeS, allowedS, none-near, too-many}
 use Rattle.worked.specs.Slots.{spreads, sends, receives}
@@ -40,26 +40,26 @@ pub record WorkedTable : Type 0 where
   -- m = 8: 128·2 = 29
   pub p2 : Multiplies 8 128 2 29
   -- 002's code: message 7,3,2 encodes to 7,3,2,5,6,4,1
-  pub p3 : Encodes code002 (7 ∷ 3 ∷ 2 ∷ []) (7 ∷ 3 ∷ 2 ∷ 5 ∷ 6 ∷ 4 ∷ 1 ∷ [])
+  pub p3 : EncodesTo code002 (7 ∷ 3 ∷ 2 ∷ []) (7 ∷ 3 ∷ 2 ∷ 5 ∷ 6 ∷ 4 ∷ 1 ∷ [])
   -- 7,3,5,1,6,4,1 unmarked: that word, e 2, bits 4
-  pub p4 : Decodes code002 (7 ∷ 3 ∷ 5 ∷ 1 ∷ 6 ∷ 4 ∷ 1 ∷ []) (0 ∷ 0 ∷ 0 ∷ 0 ∷ 0 ∷ 0 ∷ 0 ∷ []) (accepted 2 0 4) (7 ∷ 3 ∷ 2 ∷ 5 ∷ 6 ∷ 4 ∷ 1 ∷ [])
+  pub p4 : DecodesTo code002 (7 ∷ 3 ∷ 5 ∷ 1 ∷ 6 ∷ 4 ∷ 1 ∷ []) (0 ∷ 0 ∷ 0 ∷ 0 ∷ 0 ∷ 0 ∷ 0 ∷ []) (accepted 2 0 4) (7 ∷ 3 ∷ 2 ∷ 5 ∷ 6 ∷ 4 ∷ 1 ∷ [])
   -- S: message 1 gives 1,3,2
-  pub p5 : Encodes codeS (1 ∷ []) (1 ∷ 3 ∷ 2 ∷ [])
+  pub p5 : EncodesTo codeS (1 ∷ []) (1 ∷ 3 ∷ 2 ∷ [])
   -- S: 0,3,2 gives 1,3,2, e 1, bits 1
-  pub p6 : Decodes codeS (0 ∷ 3 ∷ 2 ∷ []) (0 ∷ 0 ∷ 0 ∷ []) (accepted 1 0 1) (1 ∷ 3 ∷ 2 ∷ [])
+  pub p6 : DecodesTo codeS (0 ∷ 3 ∷ 2 ∷ []) (0 ∷ 0 ∷ 0 ∷ []) (accepted 1 0 1) (1 ∷ 3 ∷ 2 ∷ [])
   -- S: 0,0,2 gives 0,0,0, e 1, bits 1
-  pub p7 : Decodes codeS (0 ∷ 0 ∷ 2 ∷ []) (0 ∷ 0 ∷ 0 ∷ []) (accepted 1 0 1) (0 ∷ 0 ∷ 0 ∷ [])
+  pub p7 : DecodesTo codeS (0 ∷ 0 ∷ 2 ∷ []) (0 ∷ 0 ∷ 0 ∷ []) (accepted 1 0 1) (0 ∷ 0 ∷ 0 ∷ [])
   -- S: 0,0,2 marked 1,1,0 gives 1,3,2, f 2, e 0, bits 3
-  pub p8 : Decodes codeS (0 ∷ 0 ∷ 2 ∷ []) (1 ∷ 1 ∷ 0 ∷ []) (accepted 0 2 3) (1 ∷ 3 ∷ 2 ∷ [])
+  pub p8 : DecodesTo codeS (0 ∷ 0 ∷ 2 ∷ []) (1 ∷ 1 ∷ 0 ∷ []) (accepted 0 2 3) (1 ∷ 3 ∷ 2 ∷ [])
   -- S: 0,1,2 unmarked is refused, 4
-  pub p9 : Decodes codeS (0 ∷ 1 ∷ 2 ∷ []) (0 ∷ 0 ∷ 0 ∷ []) BeyondReach (0 ∷ 1 ∷ 2 ∷ [])
+  pub p9 : DecodesTo codeS (0 ∷ 1 ∷ 2 ∷ []) (0 ∷ 0 ∷ 0 ∷ []) BeyondReach (0 ∷ 1 ∷ 2 ∷ [])
   -- S: 1,3,2 marked 1,1,1 is refused, 4
-  pub p10 : Decodes codeS (1 ∷ 3 ∷ 2 ∷ []) (1 ∷ 1 ∷ 1 ∷ []) BeyondReach (1 ∷ 3 ∷ 2 ∷ [])
+  pub p10 : DecodesTo codeS (1 ∷ 3 ∷ 2 ∷ []) (1 ∷ 1 ∷ 1 ∷ []) BeyondReach (1 ∷ 3 ∷ 2 ∷ [])
   -- J = 2, words 1,3,2 and 2,6,4: slots 1,2,3,6,2,4
-  pub p11 : Spreads 2 3 (1 ∷ 3 ∷ 2 ∷ 2 ∷ 6 ∷ 4 ∷ []) (1 ∷ 2 ∷ 3 ∷ 6 ∷ 2 ∷ 4 ∷ [])
+  pub p11 : SpreadsTo 2 3 (1 ∷ 3 ∷ 2 ∷ 2 ∷ 6 ∷ 4 ∷ []) (1 ∷ 2 ∷ 3 ∷ 6 ∷ 2 ∷ 4 ∷ [])
   -- I = 2, M = 2, bytes 1 to 8: out 1,0,3,0,5,2,7,4. Fed to the receiver: 0,0,0,0,1,2,3,4, marks 1,0,1,0,0,0,0,0. (4 is the one n that fits.)
-  pub p12 : Sends 2 2 4 (1 ∷ 2 ∷ 3 ∷ 4 ∷ 5 ∷ 6 ∷ 7 ∷ 8 ∷ []) (1 ∷ 0 ∷ 3 ∷ 0 ∷ 5 ∷ 2 ∷ 7 ∷ 4 ∷ [])
-      × Receives 2 2 4 (1 ∷ 0 ∷ 3 ∷ 0 ∷ 5 ∷ 2 ∷ 7 ∷ 4 ∷ []) (0 ∷ 0 ∷ 0 ∷ 0 ∷ 0 ∷ 0 ∷ 0 ∷ 0 ∷ []) (0 ∷ 0 ∷ 0 ∷ 0 ∷ 1 ∷ 2 ∷ 3 ∷ 4 ∷ []) (1 ∷ 0 ∷ 1 ∷ 0 ∷ 0 ∷ 0 ∷ 0 ∷ 0 ∷ [])
+  pub p12 : SendsTo 2 2 4 (1 ∷ 2 ∷ 3 ∷ 4 ∷ 5 ∷ 6 ∷ 7 ∷ 8 ∷ []) (1 ∷ 0 ∷ 3 ∷ 0 ∷ 5 ∷ 2 ∷ 7 ∷ 4 ∷ [])
+      × ReceivesTo 2 2 4 (1 ∷ 0 ∷ 3 ∷ 0 ∷ 5 ∷ 2 ∷ 7 ∷ 4 ∷ []) (0 ∷ 0 ∷ 0 ∷ 0 ∷ 0 ∷ 0 ∷ 0 ∷ 0 ∷ []) (0 ∷ 0 ∷ 0 ∷ 0 ∷ 1 ∷ 2 ∷ 3 ∷ 4 ∷ []) (1 ∷ 0 ∷ 1 ∷ 0 ∷ 0 ∷ 0 ∷ 0 ∷ 0 ∷ [])
   -- last 65535, new 2: newer; last 0: 32767 newer, 32768 older
   pub p13 : Judges 65535 2 Newer × Judges 0 32767 Newer × Judges 0 32768 Older
 
@@ -75,16 +75,16 @@ line224 = record { branches = (lit≤ tt, lit≤ tt); unit = (lit≤ tt, lit≤ 
 -- ---- the rest is computed
 
 pub worked-table : WorkedTable
-unfolding productOf isElement refusal sized proper allowed isField below qualifies isCodeword each valueFrom errorOf errors marked bits total ones onesIn _⊕_ times reduce product power transposed tabulate answer memory position lineOut lineKept ring tri period common compared
+unfolding productOf isElement refusal decodeRefusal allowed isField below qualifies isCodeword each valueFrom errorOf errors marked bits total ones onesIn _⊕_ times reduce product power transposed tabulate answer memory position lineOut lineKept ring tri period common compared
 worked-table = record {
   p1 = λ r e. e;
   p2 = λ r e. e;
-  p3 = made code002 (7 ∷ 3 ∷ 2 ∷ []) (5 ∷ 6 ∷ 4 ∷ 1 ∷ []) allowed002 refl refl tt;
-  p4 = found code002 (7 ∷ 3 ∷ 5 ∷ 1 ∷ 6 ∷ 4 ∷ 1 ∷ []) (0 ∷ 0 ∷ 0 ∷ 0 ∷ 0 ∷ 0 ∷ 0 ∷ []) (7 ∷ 3 ∷ 2 ∷ 5 ∷ 6 ∷ 4 ∷ 1 ∷ []) allowed002 refl refl tt;
-  p5 = made codeS (1 ∷ []) (3 ∷ 2 ∷ []) allowedS refl refl tt;
-  p6 = found codeS (0 ∷ 3 ∷ 2 ∷ []) (0 ∷ 0 ∷ 0 ∷ []) (1 ∷ 3 ∷ 2 ∷ []) allowedS refl refl tt;
-  p7 = found codeS (0 ∷ 0 ∷ 2 ∷ []) (0 ∷ 0 ∷ 0 ∷ []) (0 ∷ 0 ∷ 0 ∷ []) allowedS refl refl tt;
-  p8 = found codeS (0 ∷ 0 ∷ 2 ∷ []) (1 ∷ 1 ∷ 0 ∷ []) (1 ∷ 3 ∷ 2 ∷ []) allowedS refl refl tt;
+  p3 = made code002 (7 ∷ 3 ∷ 2 ∷ []) (5 ∷ 6 ∷ 4 ∷ 1 ∷ []) allowed002 refl tt tt;
+  p4 = found code002 (7 ∷ 3 ∷ 5 ∷ 1 ∷ 6 ∷ 4 ∷ 1 ∷ []) (0 ∷ 0 ∷ 0 ∷ 0 ∷ 0 ∷ 0 ∷ 0 ∷ []) refl (7 ∷ 3 ∷ 2 ∷ 5 ∷ 6 ∷ 4 ∷ 1 ∷ []) tt;
+  p5 = made codeS (1 ∷ []) (3 ∷ 2 ∷ []) allowedS refl tt tt;
+  p6 = found codeS (0 ∷ 3 ∷ 2 ∷ []) (0 ∷ 0 ∷ 0 ∷ []) refl (1 ∷ 3 ∷ 2 ∷ []) tt;
+  p7 = found codeS (0 ∷ 0 ∷ 2 ∷ []) (0 ∷ 0 ∷ 0 ∷ []) refl (0 ∷ 0 ∷ 0 ∷ []) tt;
+  p8 = found codeS (0 ∷ 0 ∷ 2 ∷ []) (1 ∷ 1 ∷ 0 ∷ []) refl (1 ∷ 3 ∷ 2 ∷ []) tt;
   p9 = lost codeS (0 ∷ 1 ∷ 2 ∷ []) (0 ∷ 0 ∷ 0 ∷ []) refl none-near;
   p10 = lost codeS (1 ∷ 3 ∷ 2 ∷ []) (1 ∷ 1 ∷ 1 ∷ []) refl too-many;
   p11 = spreads 2 3 (1 ∷ 3 ∷ 2 ∷ 2 ∷ 6 ∷ 4 ∷ []) (record { depth = (lit≤ tt, lit≤ tt); size = (lit≤ tt, lit≤ tt) }) refl;

@@ -7,7 +7,7 @@ use native.Mathlib.Omega.{arith}
 use lib.ListN.{length, take, drop, replicate, drop-of-length-le}
 use lib.Seq.{length-take-le}
 use borrow.Author.Needs.{needs}
-use Rattle.word.specs.Answers.{Outcome, figuresOf}
+use Rattle.word.specs.Answers.{DecodeOutcome, figuresOf}
 use Rattle.cross.specs.Words.{closed-refused, closed-corrected}
 use Rattle.cross.proofs.codes.close_outer.Statement.{statement}
 use Rattle.cross.proofs.codes.close_outer.Tie as tie
@@ -43,7 +43,7 @@ same-length c = search needs
 
 returns : tie.Need-returns
 returns c =
-    let e = rw (c .before .before .before .before .before .before .before .before .before .before .before .outer-code .ensures) at (c .before .before .before .before .before .before .before .before .before .decode-part .ensures) in
+    let e = rw (c .before .before .before .before .before .before .before .before .before .before .before .outer-code .ensures) at (c .before .before .before .before .before .before .before .before .before .decode-part .ensures .outcome) in
     let whole : List ℕ = c .before .before .before .before .before .before .before .before .before .decode-part .last .1 .1 .1 .0 in
     let size : length whole ≡ length (c .before .before .before .before .before .before .before .before .before .before .before .before .before .before .before .args .message .now) = search needs in
     let all : length (take 24 whole) ≡ 24 = length-take-le 24 whole (omega (arith, size, c .before .before .before .before .before .before .before .before .before .before .before .before .before .before .before .pre)) in
@@ -59,10 +59,10 @@ same-length-2 c = search needs
 
 returns-2 : tie.Need-returns-2
 returns-2 c =
-    let e = rw (c .before .before .before .before .before .before .before .outer-code .ensures) at (c .before .before .before .before .before .decode-part .ensures) in
+    let e = rw (c .before .before .before .before .before .before .before .outer-code .ensures) at (c .before .before .before .before .before .decode-part .ensures .outcome) in
     let h = sym (c .before .before .number-of .ensures) ∙ c .before .if1 .left in
     let d = c .before .before .before .before .before .decode-part in
-    let whole : ℕ → Outcome = λ k. record { number = k; figures = figuresOf (d .result); word = d .last .1 .1 .1 .0 } in
+    let whole : ℕ → DecodeOutcome = λ k. record { number = k; figures = figuresOf (d .result); word = d .last .1 .1 .1 .0 } in
     rw (c .figures-of .ensures) (ap whole (sym h) ∙ closed-corrected _ _ _ _ e h)
 
 pub close-outer-spec : {M : Type 1} → statement M

@@ -2,7 +2,7 @@
 -- Assumes nothing.
 use mathlib.Core.Path.{ap}
 use borrow.Author.Needs.{needs}
-use Rattle.word.specs.Answers.{Outcome}
+use Rattle.word.specs.Answers.{EncodeOutcome}
 use Rattle.cross.specs.Cross.{innerWord}
 use Rattle.cross.proofs.codes.inner_word.Statement.{statement}
 use Rattle.cross.proofs.codes.inner_word.Tie as tie
@@ -19,8 +19,8 @@ same-length c = search needs
 returns : tie.Need-returns
 unfolding innerWord
 returns c =
-    let e = c .before .before .encode .ensures in
-    rw (c .before .before .before .before .inner-code .ensures) at (ap (λ (o : Outcome). o .word) e)
+    let e = c .before .before .encode .ensures .outcome in
+    rw (c .before .before .before .before .inner-code .ensures) at (ap (λ (o : EncodeOutcome). o .word) e)
 
 pub inner-word-spec : {M : Type 1} → statement M
 inner-word-spec = tie.close (tie.spec inner-code-requires encode-requires same-length returns)

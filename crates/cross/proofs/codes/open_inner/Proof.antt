@@ -6,7 +6,7 @@ use borrow.Author.Needs.{needs}
 use lib.ListN.{length, take, length-take}
 use lib.Seq.{take-all, length-take-le}
 use Rattle.rings.specs.Refusal.{ifZero}
-use Rattle.word.specs.Answers.{Outcome, outcome}
+use Rattle.word.specs.Answers.{DecodeOutcome, decodeOutcome}
 use Rattle.cross.specs.Cross.{opened}
 use Rattle.cross.proofs.codes.open_inner.Statement.{statement}
 use Rattle.cross.proofs.codes.open_inner.Tie as tie
@@ -51,8 +51,8 @@ returns c =
     let d = c .before .before .before .decode-part in
     let front = rw (c .before .before .before .before .before .before .before .before .before .before .before .before .before .before .before .pre .1) at (c .before .before .before .before .before .before .before .before .before .before .copy .ensures) in
     let whole : take 28 (take 28 word) ≡ take 28 word = take-all 28 (take 28 word) (omega (arith, length-take 28 word)) in
-    let e : outcome (d .result) (d .last .1 .1 .1 .0) ≡ opened word = rw (c .before .before .before .before .before .before .inner-code .ensures, c .before .before .before .before .before .before .before .no-marks .ensures, front, whole) at (d .ensures) in
-    (c .mark-of .ensures ∙ ap (λ (o : Outcome). ifZero (o .number) 0 1) e, ap (λ (o : Outcome). o .word) e)
+    let e : decodeOutcome (d .result) (d .last .1 .1 .1 .0) ≡ opened word = rw (c .before .before .before .before .before .before .inner-code .ensures, c .before .before .before .before .before .before .before .no-marks .ensures, front, whole) at (d .ensures .outcome) in
+    (c .mark-of .ensures ∙ ap (λ (o : DecodeOutcome). ifZero (o .number) 0 1) e, ap (λ (o : DecodeOutcome). o .word) e)
 
 pub open-inner-spec : {M : Type 1} → statement M
 open-inner-spec =

@@ -5,7 +5,7 @@ use mathlib.Core.List.{List}
 use Prim.Native.Nat.{ℕ}
 use lib.ListN.{length, length-replicate}
 use borrow.Author.Needs.{needs}
-use Rattle.word.specs.Answers.{Outcome}
+use Rattle.word.specs.Answers.{EncodeOutcome}
 use Rattle.cross.specs.Cross.{outerWord}
 use Rattle.cross.proofs.codes.outer_word.Statement.{statement}
 use Rattle.cross.proofs.codes.outer_word.Tie as tie
@@ -27,7 +27,7 @@ unfolding outerWord
 returns c =
     let frame = c .before .before .before .before .frame-of in
     let size : length (c .before .encode .last .1 .1 .0) ≡ length (frame .result) = search needs in
-    let e = ap (λ (o : Outcome). o .word) (c .before .encode .ensures) in
+    let e = ap (λ (o : EncodeOutcome). o .word) (c .before .encode .ensures .outcome) in
     (rw (c .before .before .before .outer-code .ensures, frame .ensures) at e, size ∙ ap (λ (l : List ℕ). length l) (frame .ensures) ∙ length-replicate {A = ℕ} 28 0)
 
 pub outer-word-spec : {M : Type 1} → statement M
