@@ -9,7 +9,7 @@ use native.Mathlib.Omega.{arith}
 use lib.Bits.{bitXor, xor-comm}
 use lib.ListN.{length, set, replicate, length-set, length-replicate, getD-replicate}
 use lib.Seq.{getD-set-same, getD-set-other}
-use Rattle.algebra.specs.Sets.{either, one, one-yes, one-no, one-most}
+use Rattle.algebra.specs.Sets.{either, one, one-yes, one-no}
 use Rattle.algebra.specs.Tests.{at}
 use Rattle.algebra.specs.Lists.{Filled, filled-more}
 use Rattle.algebra.specs.Horner.{pow}
@@ -32,7 +32,6 @@ valueAt m n v d i = ev (K m) d (λ l. at v l) (locator m (n - suc i))
 
 -- the flags of the places of a word of n
 pub record Candidates (m n : ℕ) (marks v : List ℕ) (d : ℕ) (flags : List ℕ) : Type 0 where
-  pub most : (i : ℕ) → i < n → at flags i ≤ 1
   pub sound : (i : ℕ) → i < n → 0 < at flags i → Possible m (at marks i) (valueAt m n v d i)
   pub complete : (i : ℕ) → i < n → Possible m (at marks i) (valueAt m n v d i) → 0 < at flags i
 
@@ -52,10 +51,6 @@ module _ (m mark y : ℕ) where
   unfolding flagOf
   flag-none z f a ne = sym (one-no _ (⊎-elim (λ l. omega arith) (λ h. ne (rw f h))))
 
-  flag-most : flagOf m mark y ≤ 1
-  unfolding flagOf
-  flag-most = one-most _
-
   flag-sound : 0 < flagOf m mark y → Possible m mark y
   unfolding flagOf
   flag-sound h = elim (either (decLt 0 mark) (K m .dec y)) [ yes p ↦ p | no p ↦ absurd (omega (arith, one-no (either (decLt 0 mark) (K m .dec y)) p)) ]
@@ -73,7 +68,6 @@ flag-at m n marks v d locators ys i flag h t p e = rw (← t .entry i h, ← p .
 pub flags-all : (m n : ℕ) (marks v : List ℕ) (d s : ℕ) (flags : List ℕ)
     → n ≤ s → Filled 255 (λ i. flagOf m (at marks i) (valueAt m n v d i)) s flags → Candidates m n marks v d flags
 flags-all m n marks v d s flags h q = record {
-  most = λ i l. rw (q .first i (omega arith)) (flag-most m (at marks i) _);
   sound = λ i l. rw (q .first i (omega arith)) (flag-sound m (at marks i) _);
   complete = λ i l. rw (q .first i (omega arith)) (flag-complete m (at marks i) _);
 }

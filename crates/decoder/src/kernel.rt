@@ -1,7 +1,7 @@
 // The error locator: a vector that is orthogonal to every window of the power sums, by elimination without division.
 // There are d vectors of d coefficients, the rows of an array at 0, 9, 18, .., and flags for those that are alive. The rows stand 9 apart
 // whatever d is, since there are at most 9 of them, and 16 numbers can be read from each. Each window costs at most one vector its life,
-// so with one vector more than windows one is left. It is an inner call of the decoder `settle`, as those of `steps` are.
+// so with one vector more than windows one is left.
 ghost use mathlib.Core.Path.{_≡_};
 ghost use Prim.Native.Nat.{_+_, _*_, _<_, _≤_};
 ghost use lib.ListN.{length};

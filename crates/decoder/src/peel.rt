@@ -1,5 +1,5 @@
 // Peeling: what takes places out of the power sums of a word, so that the value at one place is left.
-// These are inner calls of the crates `steps` and `settle`; the word code checks every setting before it makes them.
+// The word code checks every setting before it makes these calls.
 ghost use mathlib.Core.Path.{_≡_};
 ghost use Prim.Native.Nat.{_<_, _≤_};
 ghost use lib.ListN.{length};

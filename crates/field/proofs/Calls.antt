@@ -9,9 +9,8 @@ use native.Mathlib.Omega.{arith}
 use borrow.Author.Tests.{not-true, not-false, ltb-true}
 use Rattle.field.specs.Field.{mul, a^}
 use Rattle.field.specs.Elements.{wide, prod}
-use Rattle.field.specs.Answers.{isField, isElement, productOf, powerOf, inverseOf}
+use Rattle.field.specs.Answers.{done, isField, isElement, productOf, powerOf, inverseOf}
 use Rattle.field.specs.Once.{wide-field, inverse-is}
-use Rattle.field.specs.declared.Element.the-variants.{Is}
 
 -- a test that the code asks by `!`
 pub failed : {b t : Bool} → b ≡ t → not b ≡ true → t ≡ false
@@ -28,17 +27,17 @@ module _ (m : ℕ) (field : isField m ≡ true) where
   unfolding isElement
   below x h = ltb-true x (2 ^ m) h
 
-  pub product-is : (x y r : ℕ) → isElement m x ≡ true → isElement m y ≡ true → r ≡ prod m x y → Is r ≡ productOf m x y
+  pub product-is : (x y r : ℕ) → isElement m x ≡ true → isElement m y ≡ true → r ≡ prod m x y → done r ≡ productOf m x y
   unfolding productOf
   product-is x y r h k e =
-      simp (field, h, k) (ap Is (e ∙ rw (wide-field m field, mod-eq-of-lt (below x h), mod-eq-of-lt (below y k))))
+      simp (field, h, k) (ap done (e ∙ rw (wide-field m field, mod-eq-of-lt (below x h), mod-eq-of-lt (below y k))))
 
-  pub power-is : (i r : ℕ) → r ≡ a^ (wide m) i → Is r ≡ powerOf m i
+  pub power-is : (i r : ℕ) → r ≡ a^ (wide m) i → done r ≡ powerOf m i
   unfolding powerOf
-  power-is i r e = simp field (ap Is (rw (wide-field m field) at e))
+  power-is i r e = simp field (ap done (rw (wide-field m field) at e))
 
   pub inverse-found : (x r : ℕ) → isElement m x ≡ true → x ≢ 0 → (r < 2 ^ wide m) × (0 < x % 2 ^ wide m → prod m x r ≡ 1)
-      → Is r ≡ inverseOf m x
+      → done r ≡ inverseOf m x
   inverse-found x r h nz found =
       let fits : r < 2 ^ m = rw (wide-field m field) at (found .0) in
       let whole : x % 2 ^ m ≡ x = mod-eq-of-lt (below x h) in

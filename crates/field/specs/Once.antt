@@ -1,6 +1,6 @@
 -- What the promises of the calls settle: none has a second answer, and the inverse is the one number that it can be.
 -- Assumes nothing.
-use mathlib.Core.Path.{_≡_, sym, ap, _∙_, subst}
+use mathlib.Core.Path.{_≡_, refl, sym, ap, _∙_, subst}
 use mathlib.Core.Bool.{true}
 use Prim.Native.Nat.{ℕ, _^_, _<_}
 use native.Mathlib.Decide.{ℕ-discrete}
@@ -8,26 +8,39 @@ use native.Mathlib.Omega.{arith}
 use borrow.Author.Tests.{eqb-true, eq-eqb, ne-eqb, lt-ltb}
 use lib.Dec.{eqb}
 use Rattle.algebra.specs.Xor.{_⊕_}
-use Rattle.algebra.specs.Tests.{first-is}
+use Rattle.algebra.specs.Tests.{if_then_else_, first-is}
 use Rattle.field.specs.Field.{mul}
 use Rattle.field.specs.Elements.{wide, wide-3, wide-8, Known, known, inverse, inverse-below, inverse-one, undo}
-use Rattle.field.specs.Answers.{isField, isElement, productOf, powerOf, inverseOf}
+use Rattle.field.specs.Answers.{ElementOutcome, elementOutcome, done, isField, isElement, productOf, powerOf, inverseOf}
 use Rattle.field.specs.declared.Element.{Element}
-use Rattle.field.specs.declared.Element.the-variants.{Is}
+use Rattle.field.specs.declared.Element.the-variants.{Is, BadField, BadSymbol}
 
 -- ---- two answers that meet one promise are equal
 
 pub sum-once : (x y r s : ℕ) → r ≡ x ⊕ y → s ≡ x ⊕ y → r ≡ s
 sum-once x y r s p q = cc
 
-pub product-once : (m x y : ℕ) (r s : Element) → r ≡ productOf m x y → s ≡ productOf m x y → r ≡ s
-product-once m x y r s p q = cc
+-- an answer is known by its number and its value
+answer : ElementOutcome → Element
+answer o = if eqb (o .number) 0 then Is (o .value) else if eqb (o .number) 1 then BadField else BadSymbol
 
-pub power-once : (m i : ℕ) (r s : Element) → r ≡ powerOf m i → s ≡ powerOf m i → r ≡ s
-power-once m i r s p q = cc
+answered : (r : Element) → answer (elementOutcome r) ≡ r
+unfolding answer
+answered (Is x) = refl
+answered BadField = refl
+answered BadSymbol = refl
 
-pub inverse-once : (m x : ℕ) (r s : Element) → r ≡ inverseOf m x → s ≡ inverseOf m x → r ≡ s
-inverse-once m x r s p q = cc
+outcome-once : (r s : Element) → elementOutcome r ≡ elementOutcome s → r ≡ s
+outcome-once r s e = sym (answered r) ∙ ap answer e ∙ answered s
+
+pub product-once : (m x y : ℕ) (r s : Element) → elementOutcome r ≡ productOf m x y → elementOutcome s ≡ productOf m x y → r ≡ s
+product-once m x y r s p q = outcome-once r s (p ∙ sym q)
+
+pub power-once : (m i : ℕ) (r s : Element) → elementOutcome r ≡ powerOf m i → elementOutcome s ≡ powerOf m i → r ≡ s
+power-once m i r s p q = outcome-once r s (p ∙ sym q)
+
+pub inverse-once : (m x : ℕ) (r s : Element) → elementOutcome r ≡ inverseOf m x → elementOutcome s ≡ inverseOf m x → r ≡ s
+inverse-once m x r s p q = outcome-once r s (p ∙ sym q)
 
 -- ---- the inverse
 
@@ -47,16 +60,16 @@ module _ (m x : ℕ) (field : isField m ≡ true) (some : 0 < x) (small : x < 2 
   one-inverse y z a b p q =
       sym (undo m ours x y small a (omega arith)) ∙ ap (mul m (inverse m ours x)) (p ∙ sym q) ∙ undo m ours x z small b (omega arith)
 
-  pub inverse-is : (y : ℕ) → y < 2 ^ m → mul m x y ≡ 1 → inverseOf m x ≡ Is y
+  pub inverse-is : (y : ℕ) → y < 2 ^ m → mul m x y ≡ 1 → inverseOf m x ≡ done y
   unfolding inverseOf isElement
   inverse-is y l p =
       simp (field, lt-ltb x (2 ^ m) small, ne-eqb x 0 (omega arith))
-      (ap Is (first-is (2 ^ m) (λ z. eqb (mul m x z) 1) y l (λ z k. ne-eqb (mul m x z) 1 λ q. let e : z ≡ y = one-inverse z y (omega arith) l q p in omega arith) (eq-eqb (mul m x y) 1 p)))
+      (ap done (first-is (2 ^ m) (λ z. eqb (mul m x z) 1) y l (λ z k. ne-eqb (mul m x z) 1 λ q. let e : z ≡ y = one-inverse z y (omega arith) l q p in omega arith) (eq-eqb (mul m x y) 1 p)))
 
--- the answer r is a number below 2^m whose product with x is 1, and no other number is that
-pub record Inverse (m x : ℕ) (r : Element) : Type 0 where
+-- the answer is a number below 2^m whose product with x is 1, and no other number is that
+pub record Inverse (m x : ℕ) (o : ElementOutcome) : Type 0 where
   pub value : ℕ
-  pub answer : r ≡ Is value
+  pub answer : o ≡ done value
   pub below : value < 2 ^ m
   pub gives-one : mul m x value ≡ 1
   pub only : (z : ℕ) → z < 2 ^ m → mul m x z ≡ 1 → z ≡ value

@@ -5,11 +5,11 @@ pub mod shifts;
 pub mod tables;
 
 ghost use mathlib.Core.Path.{_≡_};
-ghost use Rattle.field.specs.Answers.{isField, isElement, productOf, powerOf, inverseOf};
+ghost use Rattle.field.specs.Answers.{isField, isElement, elementOutcome, productOf, powerOf, inverseOf};
 ghost use Rattle.field.specs.Elements.{wide};
 ghost use Rattle.algebra.specs.Xor.{_⊕_};
 
-// What a call answers: an element, or why there is none. Their numbers are document 01's 0, 1 and 3.
+// What a call answers: an element, or why there is none. Its numbers are document 01's 0, 1 and 3.
 pub enum Element {
     Is(u8),
     BadField,
@@ -45,7 +45,7 @@ pub fn sum(x: u8, y: u8) -> u8
 
 // The product of two elements. Refused 1 where m is not 3 or 8, and 3 where a factor is not below 2^m.
 pub fn product(m: usize, x: u8, y: u8) -> Element
-    ensures { λ r. ⌜ r ≡ productOf m x y ⌝ }
+    ensures { λ r. ⌜ elementOutcome r ≡ productOf m x y ⌝ }
 {
     if !is_field(m) {
         return Element::BadField;
@@ -61,7 +61,7 @@ pub fn product(m: usize, x: u8, y: u8) -> Element
 
 // The i-th power of a, which is 2. Refused 1 where m is not 3 or 8.
 pub fn power(m: usize, i: usize) -> Element
-    ensures { λ r. ⌜ r ≡ powerOf m i ⌝ }
+    ensures { λ r. ⌜ elementOutcome r ≡ powerOf m i ⌝ }
 {
     if !is_field(m) {
         return Element::BadField;
@@ -71,7 +71,7 @@ pub fn power(m: usize, i: usize) -> Element
 
 // The element whose product with x is 1. Refused 1 where m is not 3 or 8, and 3 where x is 0 or not below 2^m.
 pub fn inverse(m: usize, x: u8) -> Element
-    ensures { λ r. ⌜ r ≡ inverseOf m x ⌝ }
+    ensures { λ r. ⌜ elementOutcome r ≡ inverseOf m x ⌝ }
 {
     if !is_field(m) {
         return Element::BadField;

@@ -1,5 +1,5 @@
 // Document 01, "Field": the powers of a and the exponents of the elements, as stored tables, and what is read from them.
-// Each rule is proved once over its whole table (specs/Gf3 and Gf8 of `elements`). A table named in a function is laid on the stack at every call, so
+// Each rule is proved once over its whole table (specs/Gf3 and Gf8). A table named in a function is laid on the stack at every call, so
 // none of these belongs into an inner loop.
 ghost use mathlib.Core.Path.{_≡_};
 ghost use Prim.Native.Nat.{_-_, _%_, _^_, _<_};

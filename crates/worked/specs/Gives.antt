@@ -6,7 +6,7 @@ use mathlib.Core.Bool.{true}
 use mathlib.Core.List.{List}
 use Prim.Native.Nat.{ℕ, _*_}
 use lib.ListN.{length}
-use Rattle.field.specs.Answers.{productOf}
+use Rattle.field.specs.Answers.{elementOutcome, productOf}
 use Rattle.field.specs.declared.Element.{Element}
 use Rattle.field.specs.declared.Element.the-variants.{Is}
 use Rattle.word.specs.Promises.{Encodes, Decodes}
@@ -26,7 +26,7 @@ use Rattle.record.specs.declared.Kind.{Kind}
 
 -- `product`: x times y is z
 abbrev pub Multiplies : (m x y z : ℕ) → Type 0
-Multiplies m x y z = (r : Element) → r ≡ productOf m x y → r ≡ Is z
+Multiplies m x y z = (r : Element) → elementOutcome r ≡ productOf m x y → r ≡ Is z
 
 -- `encode`: the message becomes this word, whatever the word held
 abbrev pub EncodesTo : Setting → (message word : List ℕ) → Type 0

@@ -10,6 +10,8 @@ use Rattle.algebra.specs.Tests.{total, each, below}
 use Rattle.algebra.specs.Lists.{tabulate}
 use Rattle.field.specs.Field.{times, reduce, product, power}
 use Rattle.field.specs.Answers.{isField, isElement, productOf}
+use Rattle.field.specs.Once.{product-once}
+use Rattle.field.specs.declared.Element.the-variants.{Is}
 use Rattle.word.specs.Setting.{allowed}
 use Rattle.word.specs.Word.{valueFrom, errorOf, errors, marked, bits}
 use Rattle.word.specs.Codeword.{isCodeword, qualifies}
@@ -77,8 +79,8 @@ line224 = record { branches = (lit≤ tt, lit≤ tt); unit = (lit≤ tt, lit≤ 
 pub worked-table : WorkedTable
 unfolding productOf isElement refusal decodeRefusal allowed isField below qualifies isCodeword each valueFrom errorOf errors marked bits total ones onesIn _⊕_ times reduce product power transposed tabulate answer memory position lineOut lineKept ring tri period common compared
 worked-table = record {
-  p1 = λ r e. e;
-  p2 = λ r e. e;
+  p1 = λ r e. product-once 3 2 5 r (Is 1) e refl;
+  p2 = λ r e. product-once 8 128 2 r (Is 29) e refl;
   p3 = made code002 (7 ∷ 3 ∷ 2 ∷ []) (5 ∷ 6 ∷ 4 ∷ 1 ∷ []) allowed002 refl tt tt;
   p4 = found code002 (7 ∷ 3 ∷ 5 ∷ 1 ∷ 6 ∷ 4 ∷ 1 ∷ []) (0 ∷ 0 ∷ 0 ∷ 0 ∷ 0 ∷ 0 ∷ 0 ∷ []) refl (7 ∷ 3 ∷ 2 ∷ 5 ∷ 6 ∷ 4 ∷ 1 ∷ []) tt;
   p5 = made codeS (1 ∷ []) (3 ∷ 2 ∷ []) allowedS refl tt tt;

@@ -1,4 +1,4 @@
--- `steps::correct::correct` meets its contract. The loop's invariant (`Correcting`): the places before i are corrected, the others as they
+-- `decoder::correct::correct` meets its contract. The loop's invariant (`Correcting`): the places before i are corrected, the others as they
 -- were, and the power sums are those of the word as it is. The measure is the number of places left.
 -- Assumes nothing.
 use Prim.Native.Nat.{_-_}

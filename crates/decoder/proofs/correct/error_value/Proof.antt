@@ -1,4 +1,4 @@
--- `steps::correct::error_value` meets its contract: it is the quotient of what `peel_listed` leaves by the `distance`, with the inverse of the
+-- `decoder::correct::error_value` meets its contract: it is the quotient of what `peel_listed` leaves by the `distance`, with the inverse of the
 -- latter.
 -- Assumes nothing.
 use native.Mathlib.Omega.{arith}

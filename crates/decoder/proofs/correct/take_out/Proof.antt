@@ -1,4 +1,4 @@
--- `steps::correct::take_out` meets its contract. The loop's invariant (`Taking`): the first j sums are done, and the next term of the
+-- `decoder::correct::take_out` meets its contract. The loop's invariant (`Taking`): the first j sums are done, and the next term of the
 -- course is at hand. The measure is what is left of 16.
 -- Assumes nothing.
 use Prim.Native.Nat.{_-_}

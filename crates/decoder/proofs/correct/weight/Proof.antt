@@ -1,4 +1,4 @@
--- `steps::correct::weight` meets its contract: the powers of 1 are 1, and those of a are the locators.
+-- `decoder::correct::weight` meets its contract: the powers of 1 are 1, and those of a are the locators.
 -- Assumes nothing.
 use borrow.Author.Needs.{needs}
 use Rattle.decoder.specs.Corrections.{weighs-zero, weighs-one}

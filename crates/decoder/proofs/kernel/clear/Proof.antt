@@ -1,4 +1,4 @@
--- `kernel::clear` meets its contract: a vector alive behind the pivot takes in so much of it that the two products with the window cancel. The
+-- `decoder::kernel::clear` meets its contract: a vector alive behind the pivot takes in so much of it that the two products with the window cancel. The
 -- invariant: the vectors before s are orthogonal to the window too, and the pivot is as it was. The measure is how many are left.
 -- Assumes nothing.
 use native.Mathlib.Omega.{arith}

@@ -1,4 +1,4 @@
--- `kernel::combine` meets its contract: each number of the row is the sum of a product of each row, which were made before any was written. The
+-- `decoder::kernel::combine` meets its contract: each number of the row is the sum of a product of each row, which were made before any was written. The
 -- invariant: the first l numbers of the row are made, and all else is as it was. The measure is how many are left.
 -- Assumes nothing.
 use native.Mathlib.Omega.{arith}

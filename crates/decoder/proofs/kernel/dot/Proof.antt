@@ -1,4 +1,4 @@
--- `kernel::dot` meets its contract: it adds up the row's products one by one. The invariant: what is summed, plus the rest of the products, is
+-- `decoder::kernel::dot` meets its contract: it adds up the row's products one by one. The invariant: what is summed, plus the rest of the products, is
 -- the whole. The measure is how many are left.
 -- Assumes nothing.
 use native.Mathlib.Omega.{arith}

@@ -1,4 +1,4 @@
--- `kernel::eliminate` meets its contract: where no vector misses the window nothing has to change, and else only the pivot dies.
+-- `decoder::kernel::eliminate` meets its contract: where no vector misses the window nothing has to change, and else only the pivot dies.
 -- Assumes nothing.
 use native.Mathlib.Omega.{arith}
 use Rattle.decoder.specs.Elimination.{clearing-none, eliminated-same}

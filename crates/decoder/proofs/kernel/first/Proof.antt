@@ -1,4 +1,4 @@
--- `kernel::first` meets its contract: it stops at the first vector alive, and does not pass them all, since one is alive. The invariant: every vector
+-- `decoder::kernel::first` meets its contract: it stops at the first vector alive, and does not pass them all, since one is alive. The invariant: every vector
 -- passed is dead. The measure is how many are left.
 -- Assumes nothing.
 use native.Mathlib.Omega.{arith}

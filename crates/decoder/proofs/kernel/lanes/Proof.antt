@@ -1,4 +1,4 @@
--- `kernel::lanes` meets its contract: it copies one number at a time. The invariant: the first l numbers are copied. The measure is how many
+-- `decoder::kernel::lanes` meets its contract: it copies one number at a time. The invariant: the first l numbers are copied. The measure is how many
 -- are left.
 -- Assumes nothing.
 use native.Mathlib.Omega.{arith}

@@ -1,4 +1,4 @@
--- `kernel::pivot` meets its contract: it stops at the first vector alive whose product with the window does not count as zero. The invariant: every
+-- `decoder::kernel::pivot` meets its contract: it stops at the first vector alive whose product with the window does not count as zero. The invariant: every
 -- vector alive that was passed is orthogonal to the window. The measure is how many are left.
 -- Assumes nothing.
 use native.Mathlib.Omega.{arith}

@@ -1,4 +1,4 @@
--- `kernel::units` meets its contract: each turn sets one entry of the diagonal. The invariant: the first s rows have their 1, and nothing behind the
+-- `decoder::kernel::units` meets its contract: each turn sets one entry of the diagonal. The invariant: the first s rows have their 1, and nothing behind the
 -- diagonal is set. The measure is how many rows are left.
 -- Assumes nothing.
 use native.Mathlib.Omega.{arith}

@@ -1,4 +1,4 @@
--- `steps::locate::candidate` meets its contract: each way out is one law of the flag.
+-- `decoder::locate::candidate` meets its contract: each way out is one law of the flag.
 -- Assumes nothing.
 use native.Mathlib.Omega.{arith}
 use borrow.Author.Needs.{needs}

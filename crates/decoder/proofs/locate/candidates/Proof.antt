@@ -1,4 +1,4 @@
--- `steps::locate::candidates` meets its contract. The loop's invariant: the places before `i` have their flags.
+-- `decoder::locate::candidates` meets its contract. The loop's invariant: the places before `i` have their flags.
 -- Assumes nothing.
 use mathlib.Core.Path.{refl}
 use Prim.Native.Nat.{_-_, _<_, _≤_}

@@ -1,4 +1,4 @@
--- `steps::locate::locators` meets its contract. The loop's invariant: the places from `i` on have their locators, and `x` is that of the place before them.
+-- `decoder::locate::locators` meets its contract. The loop's invariant: the places from `i` on have their locators, and `x` is that of the place before them.
 -- Assumes nothing.
 use mathlib.Core.Path.{_≡_, refl, _∙_}
 use Prim.Native.Nat.{_-_, _<_, _≤_}

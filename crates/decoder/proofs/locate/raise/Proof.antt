@@ -1,4 +1,4 @@
--- `steps::locate::raise` meets its contract. The loop's invariant: the points before `i` have had their turn. Either branch gives the product
+-- `decoder::locate::raise` meets its contract. The loop's invariant: the points before `i` have had their turn. Either branch gives the product
 -- of the field that m names, since a product depends on m by its width alone.
 -- Assumes nothing.
 use mathlib.Core.Path.{_≡_, refl}

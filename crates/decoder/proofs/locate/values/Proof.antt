@@ -1,4 +1,4 @@
--- `steps::locate::values` meets its contract. The loop's invariant: the coefficients from l up are
+-- `decoder::locate::values` meets its contract. The loop's invariant: the coefficients from l up are
 -- summed at each of the points.
 -- Assumes nothing.
 use Prim.Native.Nat.{_≤_}

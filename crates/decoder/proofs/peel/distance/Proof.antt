@@ -1,4 +1,4 @@
--- `peeling::distance` meets its contract. The loop's invariant (`Nearing`): what is multiplied, times the differences that are left, is
+-- `decoder::peel::distance` meets its contract. The loop's invariant (`Nearing`): what is multiplied, times the differences that are left, is
 -- the distance. The measure is the number of places left.
 -- Assumes nothing.
 use mathlib.Core.Logic.{⊎-elim}

@@ -1,4 +1,4 @@
--- `peeling::list` meets its contract. The loop's invariant (`Listed`): the flagged places before i are listed. The measure is the number
+-- `decoder::peel::list` meets its contract. The loop's invariant (`Listed`): the flagged places before i are listed. The measure is the number
 -- of places left.
 -- Assumes nothing.
 use mathlib.Core.Path.{_≡_}

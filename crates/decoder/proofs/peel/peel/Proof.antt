@@ -1,4 +1,4 @@
--- `peeling::peel` meets its contract. The loop's invariant: the first j sums are those without the place (`Filled`). The measure is
+-- `decoder::peel::peel` meets its contract. The loop's invariant: the first j sums are those without the place (`Filled`). The measure is
 -- what is left of 15.
 -- Assumes nothing.
 use Prim.Native.Nat.{_-_}

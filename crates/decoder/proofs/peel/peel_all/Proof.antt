@@ -1,4 +1,4 @@
--- `peeling::peel_all` meets its contract: the listed places are the flagged ones.
+-- `decoder::peel::peel_all` meets its contract: the listed places are the flagged ones.
 -- Assumes nothing.
 use native.Mathlib.Omega.{arith}
 use borrow.Author.Needs.{needs}

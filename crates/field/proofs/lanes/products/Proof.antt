@@ -1,4 +1,4 @@
--- `lanes::products` meets its contract. The loop's invariant: the first i entries are the products. Either branch gives the product
+-- `field::lanes::products` meets its contract. The loop's invariant: the first i entries are the products. Either branch gives the product
 -- of the field that m names, since a product depends on m by its width alone.
 -- Assumes nothing.
 use mathlib.Core.Logic.{⊎-elim}

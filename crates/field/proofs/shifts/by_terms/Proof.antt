@@ -1,4 +1,4 @@
--- `shifts::by_terms` meets its contract. The loop's invariant (`Terms`): what is summed, and the product that is left to add, are
+-- `field::shifts::by_terms` meets its contract. The loop's invariant (`Terms`): what is summed, and the product that is left to add, are
 -- the whole product. The measure is the number of turns left.
 -- Assumes nothing.
 use native.Mathlib.Omega.{arith}

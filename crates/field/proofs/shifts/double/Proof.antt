@@ -1,4 +1,4 @@
--- `shifts::double` meets its contract: tested at every byte, for each m.
+-- `field::shifts::double` meets its contract: tested at every byte, for each m.
 -- Assumes nothing.
 use mathlib.Core.Bool.{Bool}
 use Prim.Native.Nat.{ℕ, _*_, _/_, _%_, _^_}

@@ -1,4 +1,4 @@
--- `shifts::low` meets its contract: a byte is below 2^8.
+-- `field::shifts::low` meets its contract: a byte is below 2^8.
 -- Assumes nothing.
 use mathlib.Core.Path.{sym}
 use native.Mathlib.Nat.{mod-eq-of-lt}

@@ -1,4 +1,4 @@
--- `shifts::times` meets its contract: every m but 3 names the field of 256 elements.
+-- `field::shifts::times` meets its contract: every m but 3 names the field of 256 elements.
 -- Assumes nothing.
 use borrow.Author.Needs.{needs}
 use Rattle.field.specs.Elements.{wide, wide-3, wide-8}

@@ -1,4 +1,4 @@
--- `tables::exponent_at` meets its contract: it reads the table of the field that m names, whose entries are below 2^m - 1.
+-- `field::tables::exponent_at` meets its contract: it reads the table of the field that m names, whose entries are below 2^m - 1.
 -- Assumes nothing.
 use mathlib.Core.Path.{_≡_}
 use Prim.Native.Nat.{_%_}

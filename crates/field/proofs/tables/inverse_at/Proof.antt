@@ -1,4 +1,4 @@
--- `tables::inverse_at` meets its contract: the exponents of x and of the answer add up to 2^m - 1, whose power is 1.
+-- `field::tables::inverse_at` meets its contract: the exponents of x and of the answer add up to 2^m - 1, whose power is 1.
 -- Assumes nothing.
 use native.Mathlib.Omega.{arith}
 use borrow.Author.Needs.{needs}

@@ -1,4 +1,4 @@
--- `tables::power_at` meets its contract: the table's rule, and that the powers come again after 2^m - 1 of them.
+-- `field::tables::power_at` meets its contract: the table's rule, and that the powers come again after 2^m - 1 of them.
 -- Assumes nothing.
 use mathlib.Core.Path.{_∙_}
 use Prim.Native.Nat.{_%_}
