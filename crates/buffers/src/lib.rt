@@ -12,16 +12,23 @@ fn widen(x: u8) -> usize
     x as usize
 }
 
-// Whether every symbol is below q.
+// Whether every symbol is below q. The largest is taken, with no early way out, so that the loop can run on many bytes at once.
 pub fn all_below(s: &[u8], q: usize) -> bool
     ensures { λ r. ⌜ r ≡ below q (now (s .entry)) ⌝ }
 {
+    if s.len() == 0 {
+        return true;
+    }
+    let mut most: u8 = 0;
     let mut i = 0;
     while i < s.len() {
-        if q <= widen(s[i]) {
-            return false;
+        if s[i] > most {
+            most = s[i];
         }
         i += 1;
+    }
+    if q <= widen(most) {
+        return false;
     }
     true
 }
