@@ -22,11 +22,9 @@ same-length c = search needs
 
 returns : tie.Need-returns
 returns c =
-    put-both _ _ _
-    (c .before .before .before .before .before .before .before .before .before .hex-digit .ensures)
-    (c .before .before .before .before .hex-digit2 .ensures)
-    (c .before .before .before .before .before .before .before .put-byte .ensures)
-    (c .before .before .put-byte2 .ensures)
+    let lower = c .before .before in
+    let upper = lower .before .before .before .before .before in
+    put-both _ _ _ (upper .before .before .hex-digit .ensures) (lower .before .before .hex-digit2 .ensures) (upper .put-byte .ensures) (lower .put-byte2 .ensures)
 
 pub put-hex-spec : {M : Type 1} → statement M
 put-hex-spec =

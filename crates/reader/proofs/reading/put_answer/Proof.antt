@@ -23,12 +23,10 @@ same-length-2 c = search needs
 
 returns : tie.Need-returns
 returns c =
-    told-refused _ _ _ _
-    (c .before .before .before .before .before .before .before .before .receive .ensures)
-    _
-    (c .before .before .before .before .before .number-of .ensures)
-    (c .before .before .before .before .if1 .taken)
-    (c .before .before .put-refusal .ensures)
+    let written = c .before .before in
+    let refused = written .before .before in
+    let number = refused .before in
+    told-refused _ _ _ _ (number .before .before .before .receive .ensures) _ (number .number-of .ensures) (refused .if1 .taken) (written .put-refusal .ensures)
 
 payload-requires : tie.Need-payload-requires
 payload-requires c κs = search needs
@@ -44,14 +42,11 @@ same-length-4 c = search needs
 
 returns-2 : tie.Need-returns-2
 returns-2 c =
-    told-accepted _ _ _ _
-    (c .before .before .before .before .before .before .before .before .before .before .before .receive .ensures)
-    _
-    (c .before .before .before .before .before .before .before .before .number-of .ensures)
-    (c .before .before .before .before .before .before .before .if1 .left)
-    _
-    (c .before .before .before .before .payload .ensures)
-    (c .before .before .put-frame .ensures)
+    let written = c .before .before in
+    let part = written .before .before in
+    let accepted = part .before .before .before in
+    let number = accepted .before in
+    told-accepted _ _ _ _ (number .before .before .before .receive .ensures) _ (number .number-of .ensures) (accepted .if1 .left) _ (part .payload .ensures) (written .put-frame .ensures)
 
 pub put-answer-spec : {M : Type 1} → statement M
 put-answer-spec =

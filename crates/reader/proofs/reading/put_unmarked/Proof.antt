@@ -15,45 +15,46 @@ work-space-requires-2 : tie.Need-work-space-requires-2
 work-space-requires-2 c κs = search needs
 
 mul-count : tie.Need-mul-count
-mul-count c = omega (arith, slots-few _ (c .before .before .before .before .before .pre .0))
+mul-count c = let start = c .before .before .before .before .before in omega (arith, slots-few _ (start .pre .0))
 
 sub-size : tie.Need-sub-size
-sub-size c = omega (arith, c .before .before .before .before .before .before .pre .0 .words .room)
+sub-size c = let start = c .before .before .before .before .before .before in omega (arith, start .pre .0 .words .room)
 
 mul-size : tie.Need-mul-size
-mul-size c = omega (arith, area-few _ (c .before .before .before .before .before .before .before .pre .0))
+mul-size c = let spaces = c .before .before .before in omega (arith, area-few _ (spaces .before .before .before .before .pre .0))
 
 array-share-prefix-marks : tie.Need-array-share-prefix-marks
-array-share-prefix-marks c = omega (arith, slots-few _ (c .before .before .before .before .before .before .before .pre .0))
+array-share-prefix-marks c = let spaces = c .before .before .before in omega (arith, slots-few _ (spaces .before .before .before .before .pre .0))
 
 slice-aggregate-put-answer : tie.Need-slice-aggregate-put-answer
 slice-aggregate-put-answer c =
-    part-size _ _
-    (slots-few _ (c .before .before .before .before .before .before .before .before .pre .0))
-    (c .before .before .before .before .before .work-space .ensures .1)
+    let marks = c .before .before .before .before .before in
+    part-size _ _ (slots-few _ (marks .before .before .before .pre .0)) (marks .work-space .ensures .1)
 
 array-borrow-prefix-area : tie.Need-array-borrow-prefix-area
-array-borrow-prefix-area c = omega (arith, area-few _ (c .before .before .before .before .before .before .before .before .pre .0))
+array-borrow-prefix-area c = let spaces = c .before .before .before .before in omega (arith, area-few _ (spaces .before .before .before .before .pre .0))
 
 slice-aggregate-put-answer-2 : tie.Need-slice-aggregate-put-answer-2
 slice-aggregate-put-answer-2 c =
-    part-size _ _
-    (area-few _ (c .before .before .before .before .before .before .before .before .before .pre .0))
-    (c .before .before .before .before .before .work-space2 .ensures .1)
+    let spaces = c .before .before .before .before .before in
+    part-size _ _ (area-few _ (spaces .before .before .before .before .pre .0)) (spaces .work-space2 .ensures .1)
 
 put-answer-requires : tie.Need-put-answer-requires
 put-answer-requires c κs =
-    let limits = c .before .before .before .before .before .before .before .before .before .before .pre .0 in
-    let area = part-size (areaSize (c .before .before .before .before .before .before .before .before .before .before .args .f)) (c .before .before .before .before .before .before .work-space2 .result) (area-few _ limits) (c .before .before .before .before .before .before .work-space2 .ensures .1) in
-    omega (arith, limits .few, area-few _ limits)
+    let spaces = c .before .before .before .before .before .before in
+    let start = spaces .before .before .before .before in
+    let area = part-size (areaSize (start .args .f)) (spaces .work-space2 .result) (area-few _ (start .pre .0)) (spaces .work-space2 .ensures .1) in
+    omega (arith, start .pre .0 .few, area-few _ (start .pre .0))
 
 same-length : tie.Need-same-length
 same-length c = search needs
 
 returns : tie.Need-returns
 returns c =
-    let limits = c .before .before .before .before .before .before .before .before .before .before .before .before .before .before .pre .0 in
-    rw (unmarked _ _ _ _ limits (c .before .before .before .before .before .before .before .before .before .before .before .work-space .ensures .0) (c .before .before .before .before .before .before .before .before .before .before .work-space2 .ensures .0)) at (c .before .before .before .put-answer .ensures)
+    let written = c .before .before .before in
+    let spaces = written .before .before .before .before .before .before .before in
+    let limits = spaces .before .before .before .before .pre .0 in
+    rw (unmarked _ _ _ _ limits (spaces .before .work-space .ensures .0) (spaces .work-space2 .ensures .0)) at (written .put-answer .ensures)
 
 pub put-unmarked-spec : {M : Type 1} → statement M
 put-unmarked-spec =

@@ -14,7 +14,9 @@ put-refusal-requires : tie.Need-put-refusal-requires
 put-refusal-requires c κs = search needs
 
 returns : tie.Need-returns
-returns c = put-reports _ _ _ _ (rw (spoken-short (c .before .before .before .before .args .input .now) (omega arith)) at (c .put-refusal .ensures))
+returns c =
+    let start = c .before .before .before .before in
+    put-reports _ _ _ _ (rw (spoken-short (start .args .input .now) (omega arith)) at (c .put-refusal .ensures))
 
 framing-requires : tie.Need-framing-requires
 framing-requires c κs = search needs
@@ -26,7 +28,11 @@ put-refusal-requires-2 : tie.Need-put-refusal-requires-2
 put-refusal-requires-2 c κs = search needs
 
 returns-2 : tie.Need-returns-2
-returns-2 c = put-reports _ _ _ _ (rw (spoken-setting (c .before .before .before .before .before .before .before .args .input .now) (omega arith) (rw (c .before .before .before .before .framing .ensures) at (sym (c .before .before .before .is-allowed .ensures) ∙ not-true _ (c .before .before .if2 .taken)))) at (c .put-refusal2 .ensures))
+returns-2 c =
+    let tested = c .before .before .before in
+    let setting = tested .before in
+    let refused = rw (setting .framing .ensures) at (sym (tested .is-allowed .ensures) ∙ not-true _ (c .before .before .if2 .taken)) in
+    put-reports _ _ _ _ (rw (spoken-setting (setting .before .before .before .args .input .now) (omega arith) refused) at (c .put-refusal2 .ensures))
 
 sub-put-unmarked : tie.Need-sub-put-unmarked
 sub-put-unmarked c = search needs
@@ -42,8 +48,8 @@ put-unmarked-requires c κs = (frame-kept _ (sym (c .before .before .before .is-
 
 returns-3 : tie.Need-returns-3
 returns-3 c =
-    put-reports _ _ _ _
-    (rw (c .before .before .before .before .before .framing .ensures, spoken-answer (c .before .before .before .before .before .before .before .before .args .input .now) (omega arith)) at (c .put-unmarked .ensures))
+    let setting = c .before .before .before .before .before in
+    put-reports _ _ _ _ (rw (setting .framing .ensures, spoken-answer (setting .before .before .before .args .input .now) (omega arith)) at (c .put-unmarked .ensures))
 
 pub report-spec : {M : Type 1} → statement M
 report-spec =
