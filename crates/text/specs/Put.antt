@@ -15,8 +15,8 @@ pub record Put (piece text : List ℕ) (at end : ℕ) (left : List ℕ) : Type 0
   pub written : left ≡ take at text ++ piece ++ drop (at + length piece) text
 
 -- no second answer
-pub put-once : (piece text : List ℕ) (at r q : ℕ) (x y : List ℕ) → Put piece text at r x → Put piece text at q y → (r ≡ q) × (x ≡ y)
-put-once piece text at r q x y p u = (p .next ∙ sym (u .next), p .written ∙ sym (u .written))
+pub put-once : {piece text : List ℕ} {at r q : ℕ} {x y : List ℕ} → Put piece text at r x → Put piece text at q y → (r ≡ q) × (x ≡ y)
+put-once p u = (p .next ∙ sym (u .next), p .written ∙ sym (u .written))
 
 module _ (text : List ℕ) (at : ℕ) where
   pub put-none : at ≤ length text → Put [] text at at text

@@ -26,10 +26,10 @@ report-requires : tie.Need-report-requires
 report-requires c κs = search needs
 
 array-share-prefix-text : tie.Need-array-share-prefix-text
-array-share-prefix-text c = reports-within _ _ _ _ (c .report .ensures)
+array-share-prefix-text c = reports-within (c .report .ensures)
 
 slice-aggregate-write-all : tie.Need-slice-aggregate-write-all
-slice-aggregate-write-all c = sym (length-take-le _ _ (reports-within _ _ _ _ (c .before .report .ensures)))
+slice-aggregate-write-all c = sym (length-take-le _ _ (reports-within (c .before .report .ensures)))
 
 write-all-requires : tie.Need-write-all-requires
 write-all-requires c κs = search needs

@@ -2,8 +2,7 @@
 -- Assumes nothing.
 use native.Mathlib.Omega.{arith}
 use Prim.Native.Nat.{_+_, _-_, _≤_}
-use lib.ListN.{length}
-use lib.ListN.{take}
+use lib.ListN.{length, take}
 use Rattle.text.specs.Put.{Put, put-size, copy-none, copy-more, copy-all}
 use Rattle.text.proofs.put.Statement.{statement}
 use Rattle.text.proofs.put.Tie as tie

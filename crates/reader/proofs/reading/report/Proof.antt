@@ -16,7 +16,7 @@ put-refusal-requires c κs = search needs
 returns : tie.Need-returns
 returns c =
     let start = c .before .before .before .before in
-    put-reports _ _ _ _ (rw (spoken-short (start .args .input .now) (omega arith)) at (c .put-refusal .ensures))
+    put-reports (rw (spoken-short (start .args .input .now) (omega arith)) at (c .put-refusal .ensures))
 
 framing-requires : tie.Need-framing-requires
 framing-requires c κs = search needs
@@ -32,7 +32,7 @@ returns-2 c =
     let tested = c .before .before .before in
     let setting = tested .before in
     let refused = rw (setting .framing .ensures) at (sym (tested .is-allowed .ensures) ∙ not-true _ (c .before .before .if2 .taken)) in
-    put-reports _ _ _ _ (rw (spoken-setting (setting .before .before .before .args .input .now) (omega arith) refused) at (c .put-refusal2 .ensures))
+    put-reports (rw (spoken-setting (setting .before .before .before .args .input .now) (omega arith) refused) at (c .put-refusal2 .ensures))
 
 sub-put-unmarked : tie.Need-sub-put-unmarked
 sub-put-unmarked c = search needs
@@ -49,7 +49,7 @@ put-unmarked-requires c κs = (frame-kept _ (sym (c .before .before .before .is-
 returns-3 : tie.Need-returns-3
 returns-3 c =
     let setting = c .before .before .before .before .before in
-    put-reports _ _ _ _ (rw (setting .framing .ensures, spoken-answer (setting .before .before .before .args .input .now) (omega arith)) at (c .put-unmarked .ensures))
+    put-reports (rw (setting .framing .ensures, spoken-answer (setting .before .before .before .args .input .now) (omega arith)) at (c .put-unmarked .ensures))
 
 pub report-spec : {M : Type 1} → statement M
 report-spec =
