@@ -2,6 +2,7 @@
 -- slots held, and the decoder does the rest (document 01, Delay line).
 -- Assumes nothing.
 use mathlib.Core.Path.{_≡_, refl, sym, ap, _∙_}
+use mathlib.Core.Bool.{true, false}
 use mathlib.Core.List.{List, [], flatten, append-nil}
 use Prim.Native.Nat.{ℕ, _+_, _-_, _*_, _%_, _≤_, _<_}
 use native.Mathlib.Nat.{suc-mul, mul-le-mul-right, mod-lt}
@@ -9,26 +10,24 @@ use native.Mathlib.Omega.{arith}
 use lib.ListN.{length, getD, take, replicate, length-append, length-replicate, List·getD-append}
 use lib.Seq.{ext-getD}
 use lib.Dec.{T}
-use Rattle.algebra.specs.Tests.{at, below-at}
+use Rattle.algebra.specs.Tests.{at}
 use Rattle.algebra.specs.Lists.{tabulate, tabulated, getD-tabulate, tabulate-same}
 use Rattle.word.specs.Setting.{messageSize}
 use Rattle.word.specs.Code.{encoded}
 use Rattle.word.specs.Codeword.{isCodeword, codeword}
 use Rattle.word.specs.Met.{encodes-gives}
-use Rattle.rings.specs.Marks.{Marks, marks-same}
-use Rattle.interleave.specs.Line.{sent, received, reachable}
-use Rattle.interleave.specs.Setting.{memorySize, lineAt, receiverRefusal, runRefusal, Fine, line-done, receiver-done, run-done}
-use Rattle.interleave.specs.Steps.{blank, Sending, sendSteps}
-use Rattle.interleave.specs.Promises.{SendRun}
-use Rattle.interleave.specs.Calls.{sends-run, receives-run}
-use Rattle.interleave.specs.declared.line.Ready.{Ready}
+use Rattle.rings.specs.Run.{Ran}
+use Rattle.interleave.specs.Line.{sent, received}
+use Rattle.interleave.specs.Setting.{memorySize, lineAt, lineRun, line-done}
+use Rattle.interleave.specs.Promises.{ready, blank, freshSender, sendRun, SendRun}
+use Rattle.interleave.specs.Calls.{sender-fresh, receiver-fresh, sender-starts, receiver-starts, fresh-run}
 use Rattle.coverage.specs.Channel.{Channel, wordOf}
 use Rattle.coverage.specs.Line.{LineSetting, codeOf, LineAllowed, delay, WordSent, fed, SenderCalls, LineSent, slotOf, onLine, LineArrives, LineReceived, leaving}
 use Rattle.coverage.specs.Coverage.{LineComesBack, NoTwoLinesAlike}
 use Rattle.coverage.specs.Each.{each-length, each-entry}
 use Rattle.coverage.specs.EndToEnd.{Sized, flatten-length, flatten-at}
 use Rattle.coverage.specs.Places.{line-place, line-found}
-use Rattle.coverage.specs.LineCalls.{Prepared, sender-calls, receiver-calls}
+use Rattle.coverage.specs.LineCalls.{sender-calls, receiver-calls}
 use Rattle.coverage.specs.Words.{picked, Came, came-in, encoded-code, encoded-message, word-once, word-decoded, part-decoded}
 
 module _ (l : LineSetting) (ok : LineAllowed l) where
@@ -43,55 +42,34 @@ module _ (l : LineSetting) (ok : LineAllowed l) where
 
   -- ---- the calls on fresh lines
 
-  fresh : (size : ℕ) → size ≡ memorySize I M → Fine (lineAt I M n 0) size
-  fresh size e = record { allowed = record { setting = ok .line; position = omega (arith, reachable I M (ok .line .branches .0) (ok .line .branches .1) (ok .line .unit .0) 0) }; exact = e }
-
-  blank-fine : Fine (lineAt I M n 0) (length (blank I M 0))
-  blank-fine = fresh _ (length-replicate (memorySize I M) 0)
-
-  blank-prepared : Prepared (lineAt I M n 0) (blank I M 0) (blank I M 1)
-  blank-prepared =
-      record { line = blank-fine; exact = length-replicate (memorySize I M) 1 ∙ sym (length-replicate (memorySize I M) 0); fit = marks-same (memorySize I M) 1 (omega arith) }
-
   slots-sent : (bytes slots : List ℕ) → LineSent l bytes slots → slots ≡ tabulate (length bytes) (sent I M (at bytes))
   slots-sent bytes slots s =
-      let line : s .ready .line ≡ lineAt I M n 0 = ap (λ (z : Ready). z .line) (s .fresh .answer) in
-      let memory : s .memory ≡ blank I M 0 = rw (line-done _ _ (fresh (length (s .lent)) (s .lent-size))) at (s .fresh .memory) in
-      sender-calls (rw (line, memory) at (s .calls)) blank-fine
-      ∙ (rw (line-done _ _ blank-fine) at (sends-run I M n (ok .line) bytes _ _ _ (record { answer = refl; memory = refl; bytes = refl }) .1))
+      let (line, memory) = sender-fresh I M n (ok .line) (s .lent) (s .ready) (s .memory) (s .lent-size) (s .fresh) in
+      sender-calls (rw (line, memory) at (s .calls)) (sender-starts I M n (ok .line)) ∙ fresh-run I M n (ok .line) false 0 bytes
 
   -- and there is a sender that gives these
   pub line-sent : (bytes : List ℕ) → LineSent l bytes (tabulate (length bytes) (sent I M (at bytes)))
+  unfolding freshSender sendRun
   line-sent bytes =
-      let none = line-done (lineAt I M n 0) (length (blank I M 0)) blank-fine in
-      let a : Sending = sendSteps (lineAt I M n 0) (blank I M 0) bytes in
-      let run : SendRun (lineAt I M n 0) (blank I M 0) bytes (record { answer = 0; line = a .line }) (a .memory) (a .bytes) = record { answer = rw none; memory = rw none; bytes = rw none } in
-      let own : LineSent l bytes (a .bytes) = record {
+      let none = line-done (lineAt I M n 0) (length (blank I M 0)) (sender-starts I M n (ok .line)) in
+      let z : Ran = lineRun false (lineAt I M n 0) (blank I M 0) bytes in
+      let run : SendRun (lineAt I M n 0) (blank I M 0) bytes (ready 0 (lineAt I M n (z .position))) (z .memory) (z .out) = record { outcome = rw none } in
+      let own : LineSent l bytes (z .out) = record {
         lent = blank I M 0;
         lent-size = length-replicate (memorySize I M) 0;
-        ready = record { answer = 0; line = lineAt I M n 0 };
+        ready = ready 0 (lineAt I M n 0);
         memory = blank I M 0;
-        fresh = record { answer = rw none; memory = rw none };
-        calls = rw (append-nil bytes, append-nil (a .bytes)) at (SenderCalls.run run SenderCalls.none);
+        fresh = record { outcome = rw none };
+        calls = rw (append-nil bytes, append-nil (z .out)) at (SenderCalls.run run SenderCalls.none);
       } in
-      rw (slots-sent bytes (a .bytes) own) at own
+      rw (fresh-run I M n (ok .line) false 0 bytes) at own
 
   module _ (slots marks : List ℕ) (size : ℕ) (c : Channel size slots marks) (bytes flags : List ℕ) (r : LineReceived l slots marks bytes flags) where
-    marks-few : Marks marks
-    marks-few i h = let b = below-at 2 marks (c .zero-or-one) i (omega arith) in omega arith
-
     received-all : (bytes ≡ tabulate size (received I M 0 (at slots))) × (flags ≡ tabulate size (received I M 1 (at marks)))
     received-all =
-        let line : r .ready .line ≡ lineAt I M n 0 = ap (λ (z : Ready). z .line) (r .fresh .answer) in
-        let none : receiverRefusal (lineAt I M n 0) (length (r .lent)) (length (r .lent-marks)) ≡ 0 = receiver-done _ _ _ (fresh (length (r .lent)) (r .lent-size)) (r .marks-size ∙ sym (r .lent-size)) in
-        let memory : r .memory ≡ blank I M 0 = rw none at (r .fresh .memory) in
-        let held : r .held ≡ blank I M 1 = rw none at (r .fresh .held) in
-        let same : length marks ≡ length slots = c .marks-size ∙ sym (c .slots-size) in
-        let run : runRefusal (lineAt I M n 0) (length (blank I M 0)) (blank I M 1) (length slots) marks ≡ 0 =
-        run-done _ _ _ _ _ (record { line = blank-prepared .line; exact = blank-prepared .exact; each = same; fit = blank-prepared .fit; small = marks-few }) in
-        let (x, y) = receiver-calls (rw (line, memory, held) at (r .calls)) blank-prepared marks-few in
-        let (_, b, k) = receives-run I M n (ok .line) slots marks _ _ _ _ _ same marks-few (record { answer = refl; memory = refl; held = refl; bytes = refl; marks = refl }) in
-        (x ∙ (rw (run, c .slots-size) at b), y ∙ (rw (run, c .slots-size) at k))
+        let (line, memory, held) = receiver-fresh I M n (ok .line) (r .lent) (r .lent-marks) (r .ready) (r .memory) (r .held) (r .lent-size) (r .marks-size) (r .fresh) in
+        let (x, y) = receiver-calls (rw (line, memory, held) at (r .calls)) (receiver-starts I M n (ok .line)) (c .zero-or-one) in
+        (x ∙ (rw (c .slots-size) at (fresh-run I M n (ok .line) true 0 slots)), y ∙ (rw (c .marks-size) at (fresh-run I M n (ok .line) true 1 marks)))
 
   -- ---- words on the line
 

@@ -5,12 +5,11 @@ use mathlib.Core.Bool.{true, false}
 use mathlib.Core.List.{List}
 use Prim.Native.Nat.{ℕ, zero, suc, _-_, _*_, _≤_, _<_}
 use native.Mathlib.Omega.{arith}
-use lib.Dec.{lit≤}
+use lib.Dec.{T, lit<}
 use lib.ListN.{length, set, replicate, length-replicate}
-use Rattle.algebra.specs.Tests.{at}
-use Rattle.rings.specs.Refusal.{ifZero, need-yes}
+use Rattle.algebra.specs.Tests.{at, below, below-at, below-set, below-same}
+use Rattle.algebra.specs.Refusal.{ifZero, need-yes}
 use Rattle.rings.specs.Rings.{ring}
-use Rattle.rings.specs.Marks.{Marks, marks-set, marks-at, marks-same}
 use Rattle.word.specs.Answers.{refused}
 use Rattle.cross.specs.Cross.{outerWord, innerWord, unitsOf, turned, after, opened, passedOn, markOf, marksOf, closed, settled, received}
 use Rattle.cross.specs.Promises.{freshNumber, FreshSender, FreshReceiver, Send, Receive}
@@ -33,19 +32,19 @@ memory-fresh : (units : ℕ → ℕ) (once d : ℕ) (f : ℕ → List ℕ) → m
 unfolding memoryAfter
 memory-fresh units once d f = refl
 
-kept-marks : (k c b : ℕ) (m : List ℕ) → Marks m → b ≤ 1 → Marks (ifZero k m (set m c b))
+kept-marks : (k c b : ℕ) (m : List ℕ) → T (below 2 m) → b < 2 → T (below 2 (ifZero k m (set m c b)))
 kept-marks zero c b m f h = f
-kept-marks (suc k) c b m f h = marks-set m c b f h
+kept-marks (suc k) c b m f h = below-set 2 m c b f h
 
-turned-marks : (units : ℕ → ℕ) (q : ℕ) (m bytes : List ℕ) → Marks m → Marks bytes → (i : ℕ) → Marks (turned units q m bytes i)
+turned-marks : (units : ℕ → ℕ) (q : ℕ) (m bytes : List ℕ) → T (below 2 m) → T (below 2 bytes) → (i : ℕ) → T (below 2 (turned units q m bytes i))
 unfolding turned
 turned-marks units q m bytes f g zero = f
 turned-marks units q m bytes f g (suc i) =
-    kept-marks (units i) (ring 4 (units i) q) (at bytes i) (turned units q m bytes i) (turned-marks units q m bytes f g i) (marks-at bytes i g)
+    kept-marks (units i) (ring 4 (units i) q) (at bytes i) (turned units q m bytes i) (turned-marks units q m bytes f g i) (below-at 2 bytes g i (lit< tt))
 
-memory-marks : (units : ℕ → ℕ) (once d : ℕ) (f : ℕ → List ℕ) → d ≤ 1 → ((G : ℕ) → Marks (f G)) → (F : ℕ) → Marks (memoryAfter units once d f F)
+memory-marks : (units : ℕ → ℕ) (once d : ℕ) (f : ℕ → List ℕ) → d < 2 → ((G : ℕ) → T (below 2 (f G))) → (F : ℕ) → T (below 2 (memoryAfter units once d f F))
 unfolding memoryAfter
-memory-marks units once d f h g zero = marks-same 1512 d h
+memory-marks units once d f h g zero = below-same 2 1512 d h
 memory-marks units once d f h g (suc F) =
     turned-marks units (positionAfter once F) (memoryAfter units once d f F) (f F) (memory-marks units once d f h g F) (g F) 28
 
@@ -152,12 +151,12 @@ bytes-held words F i h = held-back (unitsOf true) (units-small true) (units-own 
 pub marks-held : (words : ℕ → List ℕ) (F i : ℕ) → i < 28 → HeldBack (λ G. marksOf (words G)) 1 (4 * (27 - i)) F i (at (dueMarks words F) i)
 marks-held words F i h = held-back (unitsOf true) (units-small true) (units-own true) 108 1 (λ G. marksOf (words G)) F i h
 
-mark-small : (k : ℕ) → ifZero k 0 1 ≤ 1
+mark-small : (k : ℕ) → ifZero k 0 1 < 2
 mark-small zero = omega arith
 mark-small (suc k) = omega arith
 
-marks-of-small : (word : List ℕ) → Marks (marksOf word)
-marks-of-small word = marks-same 28 (markOf word) (mark-small (opened word .number))
+marks-of-small : (word : List ℕ) → T (below 2 (marksOf word))
+marks-of-small word = below-same 2 28 (markOf word) (mark-small (opened word .number))
 
 module _ (many : ℕ) (words : ℕ → List ℕ) (answers : ℕ → Received) (messages : ℕ → List ℕ) (r : ReceiverCalls many words answers messages) where
   abbrev heldBytes : ℕ → List ℕ
@@ -188,7 +187,7 @@ module _ (many : ℕ) (words : ℕ → List ℕ) (answers : ℕ → Received) (m
     held-size = ap length (a .held) ∙ memory-size (unitsOf true) 108 1 _ F;
     word-size = r .word-size F h;
     message-size = r .given-size F h;
-    fit = rw (a .held) (memory-marks (unitsOf true) 108 1 _ (lit≤ tt) (λ G. marks-of-small (words G)) F);
+    fit = rw (a .held) (memory-marks (unitsOf true) 108 1 _ (lit< tt) (λ G. marks-of-small (words G)) F);
   }
 
   receiver-next : (F : ℕ) → F < many → ReceiverAt F → ReceiverAt (suc F)

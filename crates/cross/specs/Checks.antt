@@ -5,9 +5,10 @@ use mathlib.Core.List.{List}
 use Prim.Native.Nat.{ℕ, _+_, _<_}
 use native.Mathlib.Decide.{ℕ-discrete, decLt}
 use native.Mathlib.Omega.{arith}
+use lib.Dec.{T}
 use lib.ListN.{length}
-use Rattle.rings.specs.Refusal.{need-yes, need-zero, first-none, first-zero}
-use Rattle.rings.specs.Marks.{Marks, marks?}
+use Rattle.algebra.specs.Tests.{below}
+use Rattle.algebra.specs.Refusal.{need-yes, need-zero, first-none, first-zero, passes}
 use Rattle.cross.specs.Cross.{cycle, sendRefusal, freshRefusal, receiveRefusal}
 
 pub record SendFine (p memory message word : ℕ) : Type 0 where
@@ -36,7 +37,7 @@ pub record ReceiveFine (p memory : ℕ) (held : List ℕ) (word message : ℕ) :
   pub held-size : length held ≡ 1512
   pub word-size : word ≡ 32
   pub message-size : message ≡ 24
-  pub fit : Marks held
+  pub fit : T (below 2 held)
 
 pub fresh-fine : (memory held : ℕ) → freshRefusal memory held ≡ 0 → (memory ≡ 1512) × (held ≡ 1512)
 unfolding freshRefusal
@@ -56,7 +57,7 @@ receive-fine p memory held word message e =
     let (b, e₂) = first-zero (freshRefusal memory (length held)) _ e₁ in
     let (c, e₃) = need-zero (ℕ-discrete word 32) 2 _ (omega arith) e₂ in
     let (d, e₄) = need-zero (ℕ-discrete message 24) 2 _ (omega arith) e₃ in
-    let (f, _) = need-zero (marks? held) 3 _ (omega arith) e₄ in
+    let (f, _) = need-zero (passes (below 2 held)) 3 _ (omega arith) e₄ in
     let (s, t) = fresh-fine memory (length held) b in
     record { position = a; memory-size = s; held-size = t; word-size = c; message-size = d; fit = f }
 

@@ -6,11 +6,10 @@ use Prim.Native.Nat.{ℕ, zero, suc, _+_, _-_}
 use native.Mathlib.Decide.{ℕ-discrete, decLt}
 use lib.ListN.{length, replicate, take}
 use Rattle.algebra.specs.Sets.{put}
-use Rattle.algebra.specs.Tests.{at}
+use Rattle.algebra.specs.Tests.{at, below}
 use Rattle.algebra.specs.Lists.{tabulate}
-use Rattle.rings.specs.Refusal.{need, first, ifZero}
+use Rattle.algebra.specs.Refusal.{need, first, ifZero, passes}
 use Rattle.rings.specs.Rings.{ringOut, ringKept}
-use Rattle.rings.specs.Marks.{marks?}
 use Rattle.word.specs.Answers.{DecodeOutcome, refused, encoding, decodingPart}
 use Rattle.word.specs.declared.Setting.{Setting}
 use Rattle.cross.specs.declared.codes.Found.{Found}
@@ -109,4 +108,4 @@ freshRefusal memory held = need (ℕ-discrete memory 1512) 2 (need (ℕ-discrete
 unfoldable pub receiveRefusal : ℕ → ℕ → List ℕ → ℕ → ℕ → ℕ
 receiveRefusal p memory held word message =
     need (decLt p (108 + cycle)) 1
-    (first (freshRefusal memory (length held)) (need (ℕ-discrete word 32) 2 (need (ℕ-discrete message 24) 2 (need (marks? held) 3 0))))
+    (first (freshRefusal memory (length held)) (need (ℕ-discrete word 32) 2 (need (ℕ-discrete message 24) 2 (need (passes (below 2 held)) 3 0))))

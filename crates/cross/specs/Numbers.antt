@@ -6,7 +6,7 @@ use mathlib.Core.List.{List}
 use Prim.Native.Nat.{ℕ, zero, suc, _≤_}
 use native.Mathlib.Omega.{arith}
 use Rattle.algebra.specs.Sets.{put-elim}
-use Rattle.rings.specs.Refusal.{need, ifZero}
+use Rattle.algebra.specs.Refusal.{need, ifZero}
 use lib.ListN.{length, replicate}
 use Rattle.word.specs.Answers.{DecodeOutcome, noFigures, refused, decodingPart}
 use Rattle.cross.specs.Cross.{outerCode, closed, settled, sendRefusal}

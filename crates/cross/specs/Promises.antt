@@ -6,7 +6,7 @@ use mathlib.Core.List.{List}
 use Prim.Native.Nat.{ℕ}
 use native.Mathlib.Decide.{ℕ-discrete}
 use lib.ListN.{length, replicate}
-use Rattle.rings.specs.Refusal.{need, ifZero}
+use Rattle.algebra.specs.Refusal.{need, ifZero}
 use Rattle.word.specs.Answers.{DecodeOutcome, refused}
 use Rattle.cross.specs.Cross.{outerWord, innerWord, unitsOf, due, stored, after, passedOn, marksOf, settled, received, sendRefusal, freshRefusal, receiveRefusal}
 use Rattle.cross.specs.declared.position.Ready.{Ready}

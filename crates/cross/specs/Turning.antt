@@ -12,7 +12,7 @@ use lib.ListN.{length, set, length-set}
 use lib.Seq.{getD-set-same, getD-set-other}
 use Rattle.algebra.specs.Tests.{at}
 use Rattle.algebra.specs.Lists.{tabulated}
-use Rattle.rings.specs.Refusal.{ifZero}
+use Rattle.algebra.specs.Refusal.{ifZero}
 use Rattle.rings.specs.Rings.{tri, ring, ringOut, ringKept, RingFits, RingTurned, ring-end}
 use Rattle.cross.specs.Cross.{turned, due, stored}
 

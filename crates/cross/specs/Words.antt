@@ -7,7 +7,7 @@ use mathlib.Core.List.{List}
 use Prim.Native.Nat.{ℕ, _<_}
 use lib.ListN.{replicate}
 use Rattle.algebra.specs.Sets.{put-yes, put-no}
-use Rattle.rings.specs.Refusal.{new, kept}
+use Rattle.algebra.specs.Refusal.{new, kept}
 use Rattle.word.specs.Answers.{DecodeOutcome, refused, decodingPart}
 use Rattle.cross.specs.Cross.{outerCode, unitsOf, due, passedOn, marksOf, closed, settled}
 

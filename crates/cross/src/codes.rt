@@ -1,7 +1,7 @@
 // The two codes of a cross line, as its sender and its receiver use them.
 ghost use mathlib.Core.Path.{_≡_};
 ghost use lib.ListN.{length, replicate};
-ghost use Rattle.rings.specs.Refusal.{ifZero};
+ghost use Rattle.algebra.specs.Refusal.{ifZero};
 ghost use Rattle.word.specs.Answers.{numberOf};
 ghost use Rattle.cross.specs.Cross.{outerCode, innerCode, outerWord, innerWord, passedOn, markOf, closed, found};
 use buffers::copy;

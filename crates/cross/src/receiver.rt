@@ -13,8 +13,8 @@ use crate::position::Ready;
 use crate::position::Received;
 use crate::position::frames_of_a_cycle;
 use crate::position::next;
+use buffers::all_below;
 use buffers::fill;
-use rings::marks_fit;
 use word::numbers::no_figures;
 
 // The number by which a receiver's memories are refused, or 0.
@@ -67,7 +67,7 @@ fn receive_refusal(position: usize, memory: usize, held: &[u8], word: usize, mes
     if message != 24 {
         return 2;
     }
-    if !marks_fit(held) {
+    if !all_below(held, 2) {
         return 3;
     }
     0

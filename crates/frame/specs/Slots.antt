@@ -14,8 +14,6 @@ use lib.Seq.{getD-set-same, getD-set-other, take-at, length-take-le}
 use lib.Dec.{T}
 use Rattle.algebra.specs.Tests.{at, below, below-at, below-all, passed}
 use Rattle.algebra.specs.Lists.{tabulate, length-tabulate, getD-tabulate, tabulated, Filled, filled-none, filled-more, filled-all}
-use Rattle.rings.specs.Refusal.{Says}
-use Rattle.rings.specs.Marks.{Marks}
 use Rattle.interleave.specs.Block
 use Rattle.interleave.specs.Block.{transposed, spread, gather, low, high, in-block, slot-rule}
 use Rattle.frame.specs.Lists.{joined, joined-at}
@@ -50,17 +48,6 @@ unfolding wordIn
 word-back J n f h w k =
     sym (tabulated (f w) n (slotByte J w (spread J n (joined J f))) 0 (h w k)
     λ i u. sym (slot-rule J n i w (joined J f) u k ∙ joined-at n f J h w i k u))
-
--- ---- marks that were looked at
-
--- a mark above 1 is not below 2
-pub marks-tested : (r : Bool) (marks : List ℕ) → Says r (Marks marks) → r ≡ below 2 marks
-marks-tested true marks p = sym (passed (below 2 marks) (below-all 2 marks λ i l. omega (arith, p i l)))
-marks-tested false marks p = go (below 2 marks) refl
-  where
-    go : (b : Bool) → below 2 marks ≡ b → false ≡ b
-    go true e = absurd (p λ i l. omega (arith, below-at 2 marks (rw e tt) i (omega arith)))
-    go false e = refl
 
 -- ---- a loop that fills a buffer with bytes
 

@@ -13,8 +13,8 @@ use crate::setting::words_of;
 use crate::slots::take_word;
 use crate::trailer::is_good;
 use crate::trailer::two_at;
+use buffers::all_below;
 use buffers::fill;
-use rings::marks_fit;
 use word::Decoded;
 use word::Figures;
 use word::numbers::figures_of;
@@ -141,7 +141,7 @@ pub fn receive(f: Framing, slots: &[u8], marks: &[u8], area: &mut [u8]) -> Recei
     if area.len() != f.depth * (f.n - f.r) {
         return refused(Verdict::BadLength);
     }
-    if !marks_fit(marks) {
+    if !all_below(marks, 2) {
         return refused(Verdict::BadMark);
     }
     receive_checked(f, slots, marks, area)

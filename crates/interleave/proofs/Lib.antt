@@ -1,5 +1,5 @@
 -- Laws that the proofs of this crate lean on.
 mod Bounds
-mod SendPassing
-mod ReceivePassing
+mod Passing
+mod Step
 mod Walk

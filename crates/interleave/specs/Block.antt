@@ -10,7 +10,7 @@ use native.Mathlib.Omega.{arith}
 use lib.ListN.{length, getD}
 use lib.Seq.{ext-getD}
 use Rattle.algebra.specs.Lists.{tabulate, length-tabulate, getD-tabulate}
-use Rattle.rings.specs.Refusal.{need, need-yes, need-zero, ifZero}
+use Rattle.algebra.specs.Refusal.{need, need-yes, need-zero, ifZero}
 
 -- m rows of n bytes as n rows of m: place i * m + w has byte i of row w
 unfoldable pub transposed : ℕ → ℕ → List ℕ → List ℕ
@@ -39,26 +39,28 @@ unfoldable pub blockRefusal : ℕ → ℕ → ℕ → ℕ → ℕ
 blockRefusal J n source target =
     need (blockSetting? J n) 1 (need (ℕ-discrete source (J * n)) 2 (need (ℕ-discrete target (J * n)) 2 0))
 
--- what `spread` promises of its answer and of the slots it leaves
-pub record Spread (J n : ℕ) (words slots : List ℕ) (r : ℕ) (left : List ℕ) : Type 0 where
-  pub answer : r ≡ blockRefusal J n (length words) (length slots)
-  pub buffer : left ≡ ifZero r (spread J n words) slots
+-- what `spread` and `gather` answer, and what they leave in the target
+unfoldable pub spreading : ℕ → ℕ → List ℕ → List ℕ → ℕ × List ℕ
+spreading J n words slots = let k = blockRefusal J n (length words) (length slots) in ifZero k (0, spread J n words) (k, slots)
 
--- what `gather` promises of its answer and of the words it leaves
+unfoldable pub gathering : ℕ → ℕ → List ℕ → List ℕ → ℕ × List ℕ
+gathering J n slots words = let k = blockRefusal J n (length slots) (length words) in ifZero k (0, gather J n slots) (k, words)
+
+pub record Spread (J n : ℕ) (words slots : List ℕ) (r : ℕ) (left : List ℕ) : Type 0 where
+  pub outcome : _≡_ {A = ℕ × List ℕ} (r, left) (spreading J n words slots)
+
 pub record Gather (J n : ℕ) (slots words : List ℕ) (r : ℕ) (left : List ℕ) : Type 0 where
-  pub answer : r ≡ blockRefusal J n (length slots) (length words)
-  pub buffer : left ≡ ifZero r (gather J n slots) words
+  pub outcome : _≡_ {A = ℕ × List ℕ} (r, left) (gathering J n slots words)
+
+both : (r s : ℕ) (x y : List ℕ) → _≡_ {A = ℕ × List ℕ} (r, x) (s, y) → (r ≡ s) × (x ≡ y)
+both r s x y e = (ap (λ (z : ℕ × List ℕ). z .0) e, ap (λ (z : ℕ × List ℕ). z .1) e)
 
 -- No second answer meets the promise of `spread`, and none that of `gather`.
 pub spread-once : (J n : ℕ) (words slots : List ℕ) (r s : ℕ) (x y : List ℕ) → Spread J n words slots r x → Spread J n words slots s y → (r ≡ s) × (x ≡ y)
-spread-once J n words slots r s x y p q =
-    let e : r ≡ s = p .answer ∙ sym (q .answer) in
-    (e, p .buffer ∙ ap (λ (z : ℕ). ifZero z (spread J n words) slots) e ∙ sym (q .buffer))
+spread-once J n words slots r s x y p q = both r s x y (p .outcome ∙ sym (q .outcome))
 
 pub gather-once : (J n : ℕ) (slots words : List ℕ) (r s : ℕ) (x y : List ℕ) → Gather J n slots words r x → Gather J n slots words s y → (r ≡ s) × (x ≡ y)
-gather-once J n slots words r s x y p q =
-    let e : r ≡ s = p .answer ∙ sym (q .answer) in
-    (e, p .buffer ∙ ap (λ (z : ℕ). ifZero z (gather J n slots) words) e ∙ sym (q .buffer))
+gather-once J n slots words r s x y p q = both r s x y (p .outcome ∙ sym (q .outcome))
 
 -- ---- laws
 

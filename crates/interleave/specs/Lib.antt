@@ -2,6 +2,5 @@ pub mod Block
 pub mod Slots
 pub mod Line
 pub mod Setting
-pub mod Steps
 pub mod Promises
 pub mod Calls

@@ -1,7 +1,7 @@
 -- The delay line's sender and receiver (document 01, Delay line): how many positions, the step rule of each, and a byte's way from end to end.
 -- Assumes nothing.
 use mathlib.Core.Path.{_≡_, refl, sym, ap, _∙_}
-use mathlib.Core.Bool.{Bool}
+use mathlib.Core.Bool.{Bool, true, false}
 use mathlib.Core.List.{List, [], _∷_}
 use Prim.Native.Nat.{ℕ, zero, suc, _+_, _-_, _*_, _%_, _≤_, _<_, _∣_}
 use native.Mathlib.Nat.{not-suc-le-zero, dvd-of-mod-eq-zero, mul-dvd-mul-right, dvd-mul-left, add-mul, add-mul-mod-self-right, mod-lt, mod-eq-of-lt}
@@ -10,7 +10,7 @@ use native.Mathlib.Omega.{arith}
 use lib.Dec.{T, eqb, eqb→eq, leb, leb→le}
 use lib.ListN.{getD}
 use Rattle.algebra.specs.Tests.{each, each-at}
-use Rattle.rings.specs.Rings.{pos-mul}
+use Rattle.rings.specs.Rings.{order, order-small, order-own, pos-mul}
 use Rattle.rings.specs.Delay.{Turns, Past, answer, step-rule, position, position-is}
 
 -- at I, the least number that each of 1 to I - 1 divides; from 14 on it is 360360, as far as lines go
@@ -24,19 +24,12 @@ common I = getD commons I 360360
 unfoldable pub period : ℕ → ℕ → ℕ
 period I M = common I * M * I
 
--- the sender's branch j has the ring of j units, the receiver's that of I - 1 - j
-abbrev pub up : ℕ → ℕ
-up j = j
-
-abbrev pub down : ℕ → ℕ → ℕ
-down I j = I - 1 - j
-
 -- what the sender gives at step s, fed f 0, f 1, .., and what the receiver gives, fed g: d is 0 for bytes, 1 for marks
 abbrev pub sent : ℕ → ℕ → (ℕ → ℕ) → ℕ → ℕ
-sent I M f s = answer up I M (period I M) 0 f s
+sent I M f s = answer (order false I) I M (period I M) 0 f s
 
 abbrev pub received : ℕ → ℕ → ℕ → (ℕ → ℕ) → ℕ → ℕ
-received I M d g s = answer (down I) I M (period I M) d g s
+received I M d g s = answer (order true I) I M (period I M) d g s
 
 -- ---- the table of common multiples, tested once as a whole
 
@@ -88,9 +81,12 @@ module _ (I M : ℕ) (two : 2 ≤ I) (largest : I ≤ 16) (unit : 1 ≤ M) where
   some-branch : 0 < I
   some-branch = omega arith
 
-  turns : (units : ℕ → ℕ) → ((j : ℕ) → j < I → units j < I) → ((i j : ℕ) → i < I → j < I → units i ≡ units j → i ≡ j) → Turns units I M (period I M)
+  -- The step rule of either: at step s the line gives what was put in at step s - k * M * I, k the units of branch s % I, or d where that is negative.
+  line-rule : (back : Bool) (d : ℕ) (f : ℕ → ℕ) (s : ℕ) → Past f d (order back I (s % I) * M * I) s (answer (order back I) I M (period I M) d f s)
   unfolding period
-  turns units small own = turns-by I M (common I) units some-branch unit (common-pos I (omega arith)) (common-all I (omega arith)) small own
+  line-rule back d f s =
+      step-rule (order back I) I M (common I * M * I)
+      (turns-by I M (common I) (order back I) some-branch unit (common-pos I (omega arith)) (common-all I (omega arith)) (order-small back I) (order-own back I)) d f s
 
   -- Some number of steps reaches a position exactly where it is below the period.
   pub reached : (p : ℕ) → p < period I M → position (period I M) p ≡ p
@@ -101,11 +97,11 @@ module _ (I M : ℕ) (two : 2 ≤ I) (largest : I ≤ 16) (unit : 1 ≤ M) where
 
   -- The step rule: at step s the sender gives the byte put in at step s - j * M * I, j = s % I, or 0 where that is negative.
   pub sender-rule : (f : ℕ → ℕ) (s : ℕ) → Past f 0 (s % I * M * I) s (sent I M f s)
-  sender-rule f s = step-rule up I M (period I M) (turns up (λ j h. h) (λ i j h k e. e)) 0 f s
+  sender-rule f s = line-rule false 0 f s
 
   -- The receiver gives the byte, and the mark, put in at step s - (I - 1 - j) * M * I; where that is negative 0, marked 1.
   pub receiver-rule : (d : ℕ) (g : ℕ → ℕ) (s : ℕ) → Past g d ((I - 1 - s % I) * M * I) s (received I M d g s)
-  receiver-rule d g s = step-rule (down I) I M (period I M) (turns (down I) (λ j h. omega arith) (λ i j h k e. omega arith)) d g s
+  receiver-rule d g s = line-rule true d g s
 
   -- the slot that carries the byte put in at step v
   pub carried : (f : ℕ → ℕ) (v : ℕ) → sent I M f (v + v % I * M * I) ≡ f v

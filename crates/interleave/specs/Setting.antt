@@ -1,17 +1,19 @@
 -- The limits of a delay line and the refusals of its calls (document 01, Delay line and Numbers a call can answer).
 -- Assumes nothing.
-use mathlib.Core.Path.{_≡_, refl, sym}
+use mathlib.Core.Path.{_≡_, refl, sym, _∙_}
+use mathlib.Core.Bool.{Bool}
 use mathlib.Core.Logic.{Dec·and}
 use mathlib.Core.List.{List}
 use Prim.Native.Nat.{ℕ, _+_, _-_, _*_, _/_, _%_, _≤_, _<_}
-use native.Mathlib.Nat.{mod-lt}
 use native.Mathlib.Decide.{ℕ-discrete, decLe, decLt, map-dec}
 use native.Mathlib.Omega.{arith}
+use lib.Dec.{T}
 use lib.ListN.{length}
-use Rattle.rings.specs.Refusal.{need, need-yes, need-zero, first, first-none, first-zero}
-use Rattle.rings.specs.Rings.{RingFits, ring-end, tri-size}
+use Rattle.algebra.specs.Tests.{below}
+use Rattle.algebra.specs.Refusal.{need, need-yes, need-zero, first, first-none, first-zero, passes}
+use Rattle.rings.specs.Rings.{RingFits, order, ring-end, tri-size}
+use Rattle.rings.specs.Run.{Ran, run, run-size, run-position}
 use Rattle.interleave.specs.Line.{period}
-use Rattle.rings.specs.Marks.{Marks, marks?}
 use Rattle.interleave.specs.declared.line.Line.{Line}
 
 -- I branches, unit M and n: each in its limits, I divides n, and M * I is at least n
@@ -42,12 +44,16 @@ allowed? l =
     map-dec (λ p. record { setting = p .0; position = p .1 }) (λ a. (a .setting, a .position))
     (Dec·and (setting? (l .branches) (l .unit) (l .n)) (decLt (l .position) (period (l .branches) (l .unit))))
 
--- a line of this setting at a position, and the line a step later
+-- a line of this setting at a position, and a line moved to another
 abbrev pub lineAt : ℕ → ℕ → ℕ → ℕ → Line
 lineAt I M n p = record { branches = I; unit = M; n = n; position = p }
 
-unfoldable pub advanced : Line → Line
-advanced l = lineAt (l .branches) (l .unit) (l .n) ((l .position + 1) % period (l .branches) (l .unit))
+abbrev pub moved : Line → ℕ → Line
+moved l p = lineAt (l .branches) (l .unit) (l .n) p
+
+-- a run of the line's rings over some bytes: of the sender, or back of the receiver
+abbrev pub lineRun : Bool → Line → List ℕ → List ℕ → Ran
+lineRun back l m bs = run (order back (l .branches)) (l .branches) (l .unit) (period (l .branches) (l .unit)) (l .position) m bs
 
 -- the number answered for a line with a memory of so many bytes; of a receiver, whose marks have a memory of their own; ..
 unfoldable pub lineRefusal : Line → ℕ → ℕ
@@ -56,13 +62,10 @@ lineRefusal l size = need (allowed? l) 1 (need (ℕ-discrete size (memorySize (l
 unfoldable pub receiverRefusal : Line → ℕ → ℕ → ℕ
 receiverRefusal l size marks = first (lineRefusal l size) (need (ℕ-discrete marks size) 2 0)
 
--- .. of its step with a mark; and of its run over so many bytes with marks
-unfoldable pub receiveRefusal : Line → ℕ → List ℕ → ℕ → ℕ
-receiveRefusal l size held mark = first (receiverRefusal l size (length held)) (need (marks? held) 3 (need (decLe mark 1) 3 0))
-
-unfoldable pub runRefusal : Line → ℕ → List ℕ → ℕ → List ℕ → ℕ
-runRefusal l size held many marks =
-    first (receiverRefusal l size (length held)) (need (ℕ-discrete (length marks) many) 2 (need (marks? held) 3 (need (marks? marks) 3 0)))
+-- .. and of its run over so many bytes with marks
+unfoldable pub receiveRefusal : Line → ℕ → List ℕ → ℕ → List ℕ → ℕ
+receiveRefusal l size held many marks =
+    first (receiverRefusal l size (length held)) (need (ℕ-discrete (length marks) many) 2 (need (passes (below 2 held)) 3 (need (passes (below 2 marks)) 3 0)))
 
 -- ---- laws: what is known of a call that is not refused, and which calls are not
 
@@ -81,12 +84,11 @@ pub line-done : (l : Line) (size : ℕ) → Fine l size → lineRefusal l size �
 unfolding lineRefusal
 line-done l size f = sym (need-yes _ _ _ 0 (f .allowed) (need-yes _ _ _ 0 (f .exact) refl))
 
--- a line stays fine from step to step
-pub advanced-fine : (l : Line) (size : ℕ) → Fine l size → Fine (advanced l) size
-unfolding advanced
-advanced-fine l size f = record {
-  allowed = record { setting = f .allowed .setting; position = mod-lt (l .position + 1) (omega (arith, f .allowed .position)) };
-  exact = f .exact;
+-- a line stays fine from run to run
+pub run-fine : (back : Bool) (l : Line) (m bs : List ℕ) → Fine l (length m) → let z = lineRun back l m bs in Fine (moved l (z .position)) (length (z .memory))
+run-fine back l m bs f = record {
+  allowed = record { setting = f .allowed .setting; position = run-position _ _ _ _ (l .position) m bs (f .allowed .position) };
+  exact = run-size _ _ _ _ (l .position) m bs ∙ f .exact;
 }
 
 pub receiver-fine : (l : Line) (size marks : ℕ) → receiverRefusal l size marks ≡ 0 → Fine l size × (marks ≡ size)
@@ -100,49 +102,33 @@ pub receiver-done : (l : Line) (size marks : ℕ) → Fine l size → marks ≡ 
 unfolding receiverRefusal
 receiver-done l size marks f e = sym (first-none _ _ 0 (line-done l size f) (need-yes _ _ _ 0 e refl))
 
--- a receiver's step, its two memories equally long and all marks fit
-pub record StepFine (l : Line) (size : ℕ) (held : List ℕ) (mark : ℕ) : Type 0 where
+-- a receiver, its memories equally long and all its marks 0 or 1
+pub record ReceiverFine (l : Line) (size : ℕ) (held : List ℕ) : Type 0 where
   pub line : Fine l size
   pub exact : length held ≡ size
-  pub fit : Marks held
-  pub small : mark ≤ 1
+  pub fit : T (below 2 held)
 
-pub receive-fine : (l : Line) (size : ℕ) (held : List ℕ) (mark : ℕ) → receiveRefusal l size held mark ≡ 0 → StepFine l size held mark
-unfolding receiveRefusal
-receive-fine l size held mark e =
-    let (a, e₁) = first-zero (receiverRefusal l size (length held)) _ e in
-    let (m, e₂) = need-zero (marks? held) 3 _ (omega arith) e₁ in
-    let (k, _) = need-zero (decLe mark 1) 3 _ (omega arith) e₂ in
-    let (f, s) = receiver-fine l size (length held) a in
-    record { line = f; exact = s; fit = m; small = k }
-
-pub receive-done : (l : Line) (size : ℕ) (held : List ℕ) (mark : ℕ) → StepFine l size held mark → receiveRefusal l size held mark ≡ 0
-unfolding receiveRefusal
-receive-done l size held mark r =
-    sym (first-none _ _ 0 (receiver-done l size (length held) (r .line) (r .exact)) (need-yes _ _ _ 0 (r .fit) (need-yes _ _ _ 0 (r .small) refl)))
-
--- a receiver's run
+-- and its run
 pub record RunFine (l : Line) (size : ℕ) (held : List ℕ) (many : ℕ) (marks : List ℕ) : Type 0 where
-  pub line : Fine l size
-  pub exact : length held ≡ size
+  pub receiver : ReceiverFine l size held
   pub each : length marks ≡ many
-  pub fit : Marks held
-  pub small : Marks marks
+  pub small : T (below 2 marks)
 
-pub run-fine : (l : Line) (size : ℕ) (held : List ℕ) (many : ℕ) (marks : List ℕ) → runRefusal l size held many marks ≡ 0 → RunFine l size held many marks
-unfolding runRefusal
-run-fine l size held many marks e =
+pub receive-fine : (l : Line) (size : ℕ) (held : List ℕ) (many : ℕ) (marks : List ℕ) → receiveRefusal l size held many marks ≡ 0 → RunFine l size held many marks
+unfolding receiveRefusal
+receive-fine l size held many marks e =
     let (a, e₁) = first-zero (receiverRefusal l size (length held)) _ e in
     let (n, e₂) = need-zero (ℕ-discrete (length marks) many) 2 _ (omega arith) e₁ in
-    let (m, e₃) = need-zero (marks? held) 3 _ (omega arith) e₂ in
-    let (k, _) = need-zero (marks? marks) 3 _ (omega arith) e₃ in
+    let (m, e₃) = need-zero (passes (below 2 held)) 3 _ (omega arith) e₂ in
+    let (k, _) = need-zero (passes (below 2 marks)) 3 _ (omega arith) e₃ in
     let (f, s) = receiver-fine l size (length held) a in
-    record { line = f; exact = s; each = n; fit = m; small = k }
+    record { receiver = record { line = f; exact = s; fit = m }; each = n; small = k }
 
-pub run-done : (l : Line) (size : ℕ) (held : List ℕ) (many : ℕ) (marks : List ℕ) → RunFine l size held many marks → runRefusal l size held many marks ≡ 0
-unfolding runRefusal
-run-done l size held many marks r =
-    sym (first-none _ _ 0 (receiver-done l size (length held) (r .line) (r .exact)) (need-yes _ _ _ 0 (r .each) (need-yes _ _ _ 0 (r .fit) (need-yes _ _ _ 0 (r .small) refl))))
+pub receive-done : (l : Line) (size : ℕ) (held : List ℕ) (many : ℕ) (marks : List ℕ) → RunFine l size held many marks → receiveRefusal l size held many marks ≡ 0
+unfolding receiveRefusal
+receive-done l size held many marks r =
+    let f = r .receiver in
+    sym (first-none _ _ 0 (receiver-done l size (length held) (f .line) (f .exact)) (need-yes _ _ _ 0 (r .each) (need-yes _ _ _ 0 (f .fit) (need-yes _ _ _ 0 (r .small) refl))))
 
 -- the ring of any branch fits a line's memory
 pub ring-fits : (l : Line) (size k q : ℕ) → Fine l size → k < l .branches → RingFits (l .unit) k q size

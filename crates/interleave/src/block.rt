@@ -2,8 +2,7 @@
 ghost use mathlib.Core.Path.{_≡_};
 ghost use Prim.Native.Nat.{_*_, _<_};
 ghost use lib.ListN.{length};
-ghost use Rattle.rings.specs.Refusal.{Says};
-ghost use Rattle.interleave.specs.Block.{BlockSetting, blockRefusal, transposed, Spread, Gather};
+ghost use Rattle.interleave.specs.Block.{blockRefusal, transposed, Spread, Gather};
 
 // `depth` words of n bytes, end to end, go to their slots: byte i of word w to slot i * depth + w.
 // Answers 0; or 1 for depth or n outside the limits, 2 for a buffer that is not of depth * n bytes, and the slots stay as they were.
@@ -30,30 +29,20 @@ pub fn gather(depth: usize, n: usize, slots: &[u8], words: &mut [u8]) -> u8
     0
 }
 
-// The depth and n are within their limits.
-fn block_fits(depth: usize, n: usize) -> bool
-    ensures { λ r. ⌜ Says r (BlockSetting depth n) ⌝ }
-{
-    if depth < 1 {
-        return false;
-    }
-    if depth > 16 {
-        return false;
-    }
-    if n < 3 {
-        return false;
-    }
-    if n > 255 {
-        return false;
-    }
-    true
-}
-
 // The number by which a block is refused, or 0. The limits come first: within them the product fits.
 fn block_refusal(depth: usize, n: usize, source: usize, target: usize) -> u8
     ensures { λ r. ⌜ r ≡ blockRefusal depth n source target ⌝ }
 {
-    if !block_fits(depth, n) {
+    if depth < 1 {
+        return 1;
+    }
+    if depth > 16 {
+        return 1;
+    }
+    if n < 3 {
+        return 1;
+    }
+    if n > 255 {
         return 1;
     }
     if source != depth * n {

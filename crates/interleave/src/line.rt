@@ -1,9 +1,12 @@
-// What the sender and the receiver of a delay line share: the setting with the position, its refusals, and the next position.
+// What the sender and the receiver of a delay line share: the setting with the position, its refusals, and the steps of a run.
 ghost use mathlib.Core.Path.{_≡_};
 ghost use Prim.Native.Nat.{_+_, _%_, _<_, _≤_};
-ghost use Rattle.rings.specs.Refusal.{Says};
+ghost use lib.ListN.{length};
+ghost use Rattle.rings.specs.Rings.{order};
+ghost use Rattle.rings.specs.Run.{ran};
 ghost use Rattle.interleave.specs.Line.{common, period};
-ghost use Rattle.interleave.specs.Setting.{Setting, Allowed, lineRefusal, receiverRefusal, advanced};
+ghost use Rattle.interleave.specs.Setting.{Fine, lineRefusal, receiverRefusal, lineRun};
+use rings::turn;
 
 // A line's setting and its position, the number of steps so far modulo the line's period. Sender and receiver have one each.
 pub struct Line {
@@ -72,69 +75,75 @@ pub fn next(position: usize, period: usize) -> usize
     after
 }
 
-// The line a step later.
-pub fn advanced(line: Line) -> Line
-    requires { ⌜ Allowed line ⌝ }
-    ensures { λ r. ⌜ r ≡ advanced line ⌝ }
+// The units of a branch's ring: the receiver, with `back`, holds back longest where the sender held back least.
+fn ring_of(branch: usize, branches: usize, back: bool) -> usize
+    requires { ⌜ branch < branches ⌝ }
+    ensures { λ r. ⌜ r ≡ order back branches branch ⌝ }
 {
-    let mut later = line;
-    later.position = next(line.position, period(line.branches, line.unit));
-    later
+    if back {
+        return branches - 1 - branch;
+    }
+    branch
 }
 
-// The setting is within the limits of the paper.
-fn setting_fits(branches: usize, unit: usize, n: usize) -> bool
-    ensures { λ r. ⌜ Says r (Setting branches unit n) ⌝ }
+// A step for each of the bytes, in order; what leaves at a step takes the place of what went in. Answers the position after them.
+// The receiver's marks run as its bytes do. The number of positions is found once and not at each step.
+pub fn run_steps(line: Line, back: bool, memory: &mut [u8], bytes: &mut [u8]) -> usize
+    requires { ⌜ Fine line (length (now memory)) ⌝ }
+    ensures { λ r. ⌜ ran (now (bytes .exit)) (now (memory .exit)) r ≡ lineRun back line (now (memory .entry)) (now (bytes .entry)) ⌝ }
 {
-    if branches < 2 {
-        return false;
+    let branches = line.branches;
+    let unit = line.unit;
+    let positions = period(branches, unit);
+    let mut position = line.position;
+    let mut i = 0;
+    while i < bytes.len() {
+        let k = ring_of(position % branches, branches, back);
+        let q = position / branches;
+        bytes[i] = turn(memory, unit, k, q, bytes[i]);
+        position = next(position, positions);
+        i += 1;
     }
-    if branches > 16 {
-        return false;
-    }
-    if unit < 1 {
-        return false;
-    }
-    if unit > 128 {
-        return false;
-    }
-    if n < 3 {
-        return false;
-    }
-    if n > 255 {
-        return false;
-    }
-    if n % branches != 0 {
-        return false;
-    }
-    if unit * branches < n {
-        return false;
-    }
-    true
+    position
 }
 
-// The setting is within its limits, and some number of steps from a fresh line reaches the position.
-fn allowed(line: Line) -> bool
-    ensures { λ r. ⌜ Says r (Allowed line) ⌝ }
-{
-    if !setting_fits(line.branches, line.unit, line.n) {
-        return false;
-    }
-    if period(line.branches, line.unit) <= line.position {
-        return false;
-    }
-    true
-}
-
-// The number by which a line with a memory of `length` bytes is refused, or 0.
+// The number by which a line with a memory of `length` bytes is refused, or 0: the setting and the position, which some number of steps
+// from a fresh line must reach, then the length. Within the limits the products fit.
 pub fn line_refusal(line: Line, length: usize) -> u8
     ensures { λ r. ⌜ r ≡ lineRefusal line length ⌝ }
 {
-    if !allowed(line) {
+    let branches = line.branches;
+    let unit = line.unit;
+    let n = line.n;
+    let position = line.position;
+    if branches < 2 {
         return 1;
     }
-    let branches = line.branches;
-    if length != line.unit * branches * (branches - 1) / 2 {
+    if branches > 16 {
+        return 1;
+    }
+    if unit < 1 {
+        return 1;
+    }
+    if unit > 128 {
+        return 1;
+    }
+    if n < 3 {
+        return 1;
+    }
+    if n > 255 {
+        return 1;
+    }
+    if n % branches != 0 {
+        return 1;
+    }
+    if unit * branches < n {
+        return 1;
+    }
+    if period(branches, unit) <= position {
+        return 1;
+    }
+    if length != unit * branches * (branches - 1) / 2 {
         return 2;
     }
     0

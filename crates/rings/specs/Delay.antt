@@ -9,9 +9,11 @@ use native.Mathlib.Nat.{not-suc-le-zero, add-mul, zero-mul, mod-lt, div-add-mod'
 use native.Mathlib.Numerals.{add-one}
 use native.Mathlib.Decide.{ℕ-discrete, decLt}
 use native.Mathlib.Omega.{arith}
+use lib.Dec.{T}
 use lib.ListN.{length, getD, set, replicate, length-set, length-replicate, getD-replicate}
 use lib.Seq.{getD-set-same, getD-set-other}
-use Rattle.rings.specs.Refusal.{ifZero}
+use Rattle.algebra.specs.Tests.{below, below-set}
+use Rattle.algebra.specs.Refusal.{ifZero}
 use Rattle.rings.specs.Rings.{tri, ring, ringOut, ringKept, pos-mul, ring-end, ring-apart, ring-turns, ring-again, ring-period}
 
 -- a step of a line of I branches and unit M at position p: what comes out, and what stays
@@ -77,6 +79,15 @@ stored-length (suc k) c b m = length-set m c b
 pub kept-length : (units : ℕ → ℕ) (I M : ℕ) (m : List ℕ) (p b : ℕ) → length (lineKept units I M m p b) ≡ length m
 unfolding lineKept
 kept-length units I M m p b = stored-length (units (p % I)) (ring M (units (p % I)) (p / I)) b m
+
+-- a step leaves bytes below q, as it found them: 2 for marks
+pub kept-below : (units : ℕ → ℕ) (I M q : ℕ) (m : List ℕ) (p b : ℕ) → T (below q m) → b < q → T (below q (lineKept units I M m p b))
+unfolding lineKept
+kept-below units I M q m p b t h = either-way (units (p % I)) _ (below-set q m _ b t h)
+  where
+    either-way : (k : ℕ) (x : List ℕ) → T (below q x) → T (below q (ifZero k m x))
+    either-way zero x g = t
+    either-way (suc k) x g = g
 
 pub memory-length : (units : ℕ → ℕ) (I M P d : ℕ) (f : ℕ → ℕ) (s : ℕ) → length (memory units I M P d f s) ≡ tri I * M
 unfolding memory

@@ -1,4 +1,3 @@
-pub mod Refusal
 pub mod Rings
 pub mod Delay
-pub mod Marks
+pub mod Run

@@ -2,13 +2,14 @@
 -- Assumes nothing.
 use mathlib.Core.Path.{_≡_, refl, sym, ap, _∙_}
 use mathlib.Core.Logic.{_≢_}
+use mathlib.Core.Bool.{Bool, true, false}
 use mathlib.Core.List.{List}
 use Prim.Native.Nat.{ℕ, zero, suc, _+_, _-_, _*_, _/_, _%_, _≤_, _<_, _∣_}
 use native.Mathlib.Nat.{not-suc-le-zero, mul-le-mul-right, mul-le-mul-left, suc-mul, mul-suc, add-mul, mul-add, mul-comm, mul-assoc, mul-left-comm, zero-mul, mod-lt, add-mod-right, div-add-mod, mul-div-cancel', mul-add-div, mul-add-mod-self-left}
 use native.Mathlib.Decide.{ℕ-discrete, decLt}
 use native.Mathlib.Omega.{arith}
 use lib.ListN.{getD, set}
-use Rattle.rings.specs.Refusal.{ifZero}
+use Rattle.algebra.specs.Refusal.{ifZero}
 
 -- 0 + 1 + .. + (k - 1): the units before the ring of k units
 unfoldable pub tri : ℕ → ℕ
@@ -18,6 +19,11 @@ tri (suc k) = tri k + k
 -- the cell of the ring of k units at turn q
 unfoldable pub ring : ℕ → ℕ → ℕ → ℕ
 ring M k q = tri k * M + q % (k * M)
+
+-- the order of the rings of I branches: branch j has the ring of j units in the sender, and back in the receiver that of I - 1 - j
+abbrev pub order : Bool → ℕ → ℕ → ℕ
+order false I j = j
+order true I j = I - 1 - j
 
 -- one turn of a ring on a memory: what comes out, and what stays. Without a ring the byte goes straight through
 abbrev pub ringOut : ℕ → ℕ → ℕ → List ℕ → ℕ → ℕ
@@ -39,6 +45,15 @@ pub record RingTurned (M k q : ℕ) (m : List ℕ) (b r : ℕ) (left : List ℕ)
   pub memory : left ≡ ringKept M k q m b
 
 -- ---- laws
+
+-- each branch has a ring of its own
+pub order-small : (back : Bool) (I j : ℕ) → j < I → order back I j < I
+order-small false I j h = h
+order-small true I j h = omega arith
+
+pub order-own : (back : Bool) (I i j : ℕ) → i < I → j < I → order back I i ≡ order back I j → i ≡ j
+order-own false I i j h k e = e
+order-own true I i j h k e = omega arith
 
 pub pos-mul : (a b : ℕ) → 0 < a → 0 < b → 0 < a * b
 pos-mul a b h k = omega (arith, mul-le-mul-right b h, suc-mul 0 b, zero-mul b)

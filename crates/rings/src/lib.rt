@@ -1,8 +1,6 @@
 // Rings of bytes end to end in one lent memory, the shortest first: what every delay is made of, also the cross line's.
 ghost use lib.ListN.{length};
-ghost use Rattle.rings.specs.Refusal.{Says};
 ghost use Rattle.rings.specs.Rings.{RingFits, RingTurned};
-ghost use Rattle.rings.specs.Marks.{Marks};
 
 // One turn of the ring of k units: what it holds at turn q comes out, and the byte goes in. Where k is 0 the byte itself comes out.
 pub fn turn(memory: &mut [u8], unit: usize, k: usize, q: usize, byte: u8) -> u8
@@ -16,22 +14,4 @@ pub fn turn(memory: &mut [u8], unit: usize, k: usize, q: usize, byte: u8) -> u8
     let out = memory[at];
     memory[at] = byte;
     out
-}
-
-// No mark is above 1. The largest mark is taken, with no early way out, so that the loop can run on many bytes at once.
-pub fn marks_fit(marks: &[u8]) -> bool
-    ensures { λ r. ⌜ Says r (Marks (now (marks .entry))) ⌝ }
-{
-    let mut most: u8 = 0;
-    let mut i = 0;
-    while i < marks.len() {
-        if marks[i] > most {
-            most = marks[i];
-        }
-        i += 1;
-    }
-    if most > 1 {
-        return false;
-    }
-    true
 }

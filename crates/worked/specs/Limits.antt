@@ -22,15 +22,15 @@ use Rattle.word.specs.declared.Encoded.{Encoded}
 use Rattle.word.specs.declared.Encoded.the-variants as E
 use Rattle.word.specs.declared.Decoded.{Decoded}
 use Rattle.word.specs.declared.Decoded.the-variants.{BadSetting}
-use Rattle.rings.specs.Refusal.{need-no}
+use Rattle.algebra.specs.Refusal.{need-no}
 use Rattle.interleave.specs.Setting as line
-use Rattle.interleave.specs.Setting.{memorySize, lineAt, lineRefusal, receiverRefusal, receiveRefusal, runRefusal}
-use Rattle.interleave.specs.Steps.{sendStep, sendMemory, receiveStep, receiveMemory, receiveMarks}
-use Rattle.interleave.specs.Promises.{FreshSender, FreshReceiver, SendStep, SendRun, ReceiveStep, ReceiveRun}
+use Rattle.interleave.specs.Setting.{memorySize, lineAt, lineRefusal, receiverRefusal, receiveRefusal}
+use Rattle.interleave.specs.Promises.{ready, freshSender, freshReceiver, sendStep, receiveStep, sendRun, receiveRun, FreshSender, FreshReceiver, SendStep, SendRun, ReceiveStep, ReceiveRun}
+use Rattle.interleave.specs.Calls.{sender-fresh, receiver-fresh}
+use Rattle.interleave.specs.declared.line.Line.{Line}
 use Rattle.interleave.specs.declared.line.Ready.{Ready}
 use Rattle.interleave.specs.declared.line.Sent.{Sent}
 use Rattle.interleave.specs.declared.line.Received.{Received}
-use Rattle.worked.specs.Slots.{sender-stands, receiver-stands}
 
 -- no call of the word code answers 1
 pub record Stands (s : Setting) : Type 0 where
@@ -119,8 +119,15 @@ line-no : (I M n p size : ℕ) → M * I + I ≡ n → lineRefusal (lineAt I M n
 unfolding lineRefusal
 line-no I M n p size e = sym (need-no _ 1 _ λ a. omega (arith, a .setting .room, a .setting .branches .0))
 
+refused-three : (r : Ready) (x u : List ℕ) (l : Line) (y v : List ℕ) → _≡_ {A = Ready × List ℕ × List ℕ} (r, x, u) (ready 1 l, y, v) → (r .answer ≡ 1) × (x ≡ y) × (u ≡ v)
+refused-three r x u l y v e =
+    (ap (λ (z : Ready × List ℕ × List ℕ). z .0 .answer) e, ap (λ (z : Ready × List ℕ × List ℕ). z .1) e, ap (λ (z : Ready × List ℕ × List ℕ). z .2) e)
+
+abbrev RunGiven : Type 0
+RunGiven = Ready × List ℕ × List ℕ × List ℕ × List ℕ
+
 pub limits : Limits
-unfolding isField receiverRefusal receiveRefusal runRefusal sendStep sendMemory receiveStep receiveMemory receiveMarks
+unfolding isField receiverRefusal receiveRefusal freshSender freshReceiver sendStep receiveStep sendRun receiveRun
 limits = record {
   n-255 = λ r b low high small. stands (setting 8 255 r b)
       (allowed-yes (setting 8 255 r b) (record { field = tt; low = low; high = high; room = omega arith; short = lit< tt; start = small }));
@@ -130,17 +137,24 @@ limits = record {
   line-stands = λ I M n branches unit size e.
       let t : line.Setting I M n = record { branches = branches; unit = unit; size = size; whole = rw (← e) (mul-mod-left M I); room = omega arith } in
       record {
-        sender = λ held left r k p. ap (λ (z : Ready). z .answer) (p .answer) ∙ sender-stands I M n t (length held) k;
-        receiver = λ held marks left leftMarks r k g p. ap (λ (z : Ready). z .answer) (p .answer) ∙ receiver-stands I M n t (length held) (length marks) k g;
+        sender = λ held left r k p. ap (λ (z : Ready). z .answer) (sender-fresh I M n t held r left k p .0);
+        receiver = λ held marks left leftMarks r k g p. ap (λ (z : Ready). z .answer) (receiver-fresh I M n t held marks r left leftMarks k (g ∙ k) p .0);
       };
   line-refused = λ I M n e. record {
-    fresh-sender = λ m left r p. let one = line-no I M n 0 (length m) e in (rw one at (ap (λ (z : Ready). z .answer) (p .answer)), rw one at (p .memory));
-    fresh-receiver = λ m ms left leftMarks r p. let one = line-no I M n 0 (length m) e in (rw one at (ap (λ (z : Ready). z .answer) (p .answer)), rw one at (p .memory), rw one at (p .held));
-    send-step = λ p b m left r q. let one = line-no I M n p (length m) e in (rw one at (ap (λ (z : Sent). z .answer) (q .answer)), rw one at (q .memory));
-    receive-step = λ p b k m ms left leftMarks r q. let one = line-no I M n p (length m) e in (rw one at (ap (λ (z : Received). z .answer) (q .answer)), rw one at (q .memory), rw one at (q .held));
-    send-run = λ p m bs left out r q. let one = line-no I M n p (length m) e in (rw one at (ap (λ (z : Ready). z .answer) (q .answer)), rw one at (q .memory), rw one at (q .bytes));
+    fresh-sender = λ m left r p.
+        let q = rw (line-no I M n 0 (length m) e) at (p .outcome) in
+        (ap (λ (z : Ready × List ℕ). z .0 .answer) q, ap (λ (z : Ready × List ℕ). z .1) q);
+    fresh-receiver = λ m ms left leftMarks r p. refused-three r left leftMarks (lineAt I M n 0) m ms (rw (line-no I M n 0 (length m) e) at (p .outcome));
+    send-step = λ p b m left r q.
+        let g = rw (line-no I M n p (length m) e) at (q .outcome) in
+        (ap (λ (z : Sent × List ℕ). z .0 .answer) g, ap (λ (z : Sent × List ℕ). z .1) g);
+    receive-step = λ p b k m ms left leftMarks r q.
+        let g = rw (line-no I M n p (length m) e) at (q .outcome) in
+        (ap (λ (z : Received × List ℕ × List ℕ). z .0 .answer) g, ap (λ (z : Received × List ℕ × List ℕ). z .1) g, ap (λ (z : Received × List ℕ × List ℕ). z .2) g);
+    send-run = λ p m bs left out r q. refused-three r left out (lineAt I M n p) m bs (rw (line-no I M n p (length m) e) at (q .outcome));
     receive-run = λ p m ms bs ks left leftMarks out outMarks r q.
-        let one = line-no I M n p (length m) e in (rw one at (ap (λ (z : Ready). z .answer) (q .answer)), rw one at (q .memory), rw one at (q .held), rw one at (q .bytes), rw one at (q .marks));
+        let g = rw (line-no I M n p (length m) e) at (q .outcome) in
+        (ap (λ (z : RunGiven). z .0 .answer) g, ap (λ (z : RunGiven). z .1) g, ap (λ (z : RunGiven). z .2) g, ap (λ (z : RunGiven). z .3) g, ap (λ (z : RunGiven). z .4) g);
   };
 }
 

@@ -4,9 +4,9 @@
 use mathlib.Core.Path.{refl}
 use mathlib.Core.List.{[], _∷_}
 use lib.Count.{ones, onesIn}
-use lib.Dec.{T, lit≤}
+use lib.Dec.{T, lit≤, lit<}
 use Rattle.algebra.specs.Xor.{_⊕_}
-use Rattle.algebra.specs.Tests.{total, each, below}
+use Rattle.algebra.specs.Tests.{total, each, below, below-same}
 use Rattle.algebra.specs.Lists.{tabulate}
 use Rattle.field.specs.Field.{times, reduce, product, power}
 use Rattle.field.specs.Answers.{isField, isElement, productOf}
@@ -20,7 +20,6 @@ use Rattle.word.specs.declared.Setting.{Setting}
 use Rattle.word.specs.declared.Decoded.the-variants.{BeyondReach}
 use Rattle.rings.specs.Rings.{ring, tri}
 use Rattle.rings.specs.Delay.{answer, memory, position, lineOut, lineKept}
-use Rattle.rings.specs.Marks.{marks-same}
 use Rattle.interleave.specs.Block.{transposed}
 use Rattle.interleave.specs.Line.{common, period}
 use Rattle.interleave.specs.Setting as line
@@ -92,7 +91,7 @@ worked-table = record {
   p11 = spreads 2 3 (1 ∷ 3 ∷ 2 ∷ 2 ∷ 6 ∷ 4 ∷ []) (record { depth = (lit≤ tt, lit≤ tt); size = (lit≤ tt, lit≤ tt) }) refl;
   p12 = (
     sends 2 2 4 line224 (1 ∷ 2 ∷ 3 ∷ 4 ∷ 5 ∷ 6 ∷ 7 ∷ 8 ∷ []),
-    receives 2 2 4 line224 (1 ∷ 0 ∷ 3 ∷ 0 ∷ 5 ∷ 2 ∷ 7 ∷ 4 ∷ []) (0 ∷ 0 ∷ 0 ∷ 0 ∷ 0 ∷ 0 ∷ 0 ∷ 0 ∷ []) refl (marks-same 8 0 (lit≤ tt)),
+    receives 2 2 4 line224 (1 ∷ 0 ∷ 3 ∷ 0 ∷ 5 ∷ 2 ∷ 7 ∷ 4 ∷ []) (0 ∷ 0 ∷ 0 ∷ 0 ∷ 0 ∷ 0 ∷ 0 ∷ 0 ∷ []) refl (below-same 2 8 0 (lit< tt)),
   );
   p13 = (judges 65535 2 Newer refl, judges 0 32767 Newer refl, judges 0 32768 Older refl);
 }

@@ -4,7 +4,7 @@ use Prim.Native.Nat.{_*_, _<_}
 use native.Mathlib.Omega.{arith}
 use borrow.Author.Needs.{needs}
 use native.Mathlib.Nat.{mod-lt}
-use Rattle.rings.specs.Refusal.{kept}
+use Rattle.algebra.specs.Refusal.{kept}
 use Rattle.rings.specs.Rings.{pos-mul}
 use Rattle.rings.proofs.Cells.{ring-bound, ring-code}
 use Rattle.rings.proofs.turn.Statement.{statement}

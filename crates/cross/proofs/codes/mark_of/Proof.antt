@@ -1,7 +1,7 @@
 -- `codes::mark_of` meets its contract: 1 where the number is not 0.
 -- Assumes nothing.
 use borrow.Author.Needs.{needs}
-use Rattle.rings.specs.Refusal.{new, kept}
+use Rattle.algebra.specs.Refusal.{new, kept}
 use Rattle.cross.proofs.codes.mark_of.Statement.{statement}
 use Rattle.cross.proofs.codes.mark_of.Tie as tie
 

@@ -5,7 +5,7 @@ use native.Mathlib.Omega.{arith}
 use borrow.Author.Needs.{needs}
 use lib.ListN.{length, take, length-take}
 use lib.Seq.{take-all, length-take-le}
-use Rattle.rings.specs.Refusal.{ifZero}
+use Rattle.algebra.specs.Refusal.{ifZero}
 use Rattle.word.specs.Answers.{DecodeOutcome, decodeOutcome}
 use Rattle.cross.specs.Cross.{opened}
 use Rattle.cross.proofs.codes.open_inner.Statement.{statement}

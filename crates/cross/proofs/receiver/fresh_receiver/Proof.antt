@@ -4,7 +4,7 @@ use mathlib.Core.Path.{sym, ap, _∙_}
 use Prim.Native.Nat.{ℕ}
 use lib.ListN.{replicate}
 use borrow.Author.Needs.{needs}
-use Rattle.rings.specs.Refusal.{kept}
+use Rattle.algebra.specs.Refusal.{kept}
 use Rattle.cross.specs.Promises.{ready}
 use Rattle.cross.specs.Checks.{fresh-fine}
 use Rattle.cross.proofs.receiver.fresh_receiver.Statement.{statement}

@@ -1,7 +1,7 @@
 -- `fresh_refusal` meets its contract: each way out is one need of the definition.
 -- Assumes nothing.
 use mathlib.Core.Path.{refl}
-use Rattle.rings.specs.Refusal.{need-yes, need-no}
+use Rattle.algebra.specs.Refusal.{need-yes, need-no}
 use Rattle.cross.specs.Cross.{freshRefusal}
 use Rattle.cross.proofs.receiver.fresh_refusal.Statement.{statement}
 use Rattle.cross.proofs.receiver.fresh_refusal.Tie as tie

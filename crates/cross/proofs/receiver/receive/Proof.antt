@@ -2,7 +2,7 @@
 -- Assumes nothing.
 use mathlib.Core.Path.{sym, _∙_}
 use borrow.Author.Needs.{needs}
-use Rattle.rings.specs.Refusal.{kept}
+use Rattle.algebra.specs.Refusal.{kept}
 use Rattle.cross.specs.Checks.{receive-fine}
 use Rattle.cross.proofs.receiver.receive.Statement.{statement}
 use Rattle.cross.proofs.receiver.receive.Tie as tie

@@ -3,7 +3,7 @@
 use mathlib.Core.Path.{refl, sym, _∙_}
 use native.Mathlib.Omega.{arith}
 use borrow.Author.Needs.{needs}
-use Rattle.rings.specs.Refusal.{need-yes, need-no, first-none, first-some, said-yes, said-no}
+use Rattle.algebra.specs.Refusal.{need-yes, need-no, first-none, first-some, test-yes, test-no}
 use Rattle.cross.specs.Cross.{receiveRefusal}
 use Rattle.cross.proofs.receiver.receive_refusal.Statement.{statement}
 use Rattle.cross.proofs.receiver.receive_refusal.Tie as tie
@@ -38,24 +38,24 @@ returns-4 c =
     (first-none _ _ _ (sym (c .before .before .before .fresh-refusal .ensures) ∙ c .before .before .if2 .left)
     (need-yes _ _ _ _ (c .before .if3 .left) (need-no _ _ _ (c .if4 .taken))))
 
-marks-fit-requires : tie.Need-marks-fit-requires
-marks-fit-requires c κs = search needs
+all-below-requires : tie.Need-all-below-requires
+all-below-requires c κs = search needs
 
 returns-5 : tie.Need-returns-5
 unfolding receiveRefusal
 returns-5 c =
-    let m = c .before .marks-fit in
+    let m = c .before .all-below in
     need-yes _ _ _ _ (omega arith)
     (first-none _ _ _ (sym (c .before .before .before .before .before .fresh-refusal .ensures) ∙ c .before .before .before .before .if2 .left)
-    (need-yes _ _ _ _ (c .before .before .before .if3 .left) (need-yes _ _ _ _ (c .before .before .if4 .left) (need-no _ _ _ (said-no (m .result) (m .ensures) (c .if5 .taken))))))
+    (need-yes _ _ _ _ (c .before .before .before .if3 .left) (need-yes _ _ _ _ (c .before .before .if4 .left) (need-no _ _ _ (test-no _ _ (m .ensures) (c .if5 .taken))))))
 
 returns-6 : tie.Need-returns-6
 unfolding receiveRefusal
 returns-6 c =
-    let m = c .before .marks-fit in
+    let m = c .before .all-below in
     need-yes _ _ _ _ (omega arith)
     (first-none _ _ _ (sym (c .before .before .before .before .before .fresh-refusal .ensures) ∙ c .before .before .before .before .if2 .left)
-    (need-yes _ _ _ _ (c .before .before .before .if3 .left) (need-yes _ _ _ _ (c .before .before .if4 .left) (need-yes _ _ _ _ (said-yes (m .result) (m .ensures) (c .if5 .left)) refl))))
+    (need-yes _ _ _ _ (c .before .before .before .if3 .left) (need-yes _ _ _ _ (c .before .before .if4 .left) (need-yes _ _ _ _ (test-yes _ _ (m .ensures) (c .if5 .left)) refl))))
 
 pub receive-refusal-spec : {M : Type 1} → statement M
 receive-refusal-spec =
@@ -68,6 +68,6 @@ receive-refusal-spec =
     returns-2
     returns-3
     returns-4
-    marks-fit-requires
+    all-below-requires
     returns-5
     returns-6)

@@ -4,7 +4,7 @@ use mathlib.Core.Path.{_≡_, refl, ap, _∙_}
 use Prim.Native.Nat.{ℕ}
 use lib.ListN.{length, replicate}
 use borrow.Author.Needs.{needs}
-use Rattle.rings.specs.Refusal.{need-yes, need-no}
+use Rattle.algebra.specs.Refusal.{need-yes, need-no}
 use Rattle.cross.specs.Promises.{ready, freshNumber}
 use Rattle.cross.proofs.sender.fresh_sender.Statement.{statement}
 use Rattle.cross.proofs.sender.fresh_sender.Tie as tie

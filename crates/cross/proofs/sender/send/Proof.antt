@@ -3,7 +3,7 @@
 use mathlib.Core.Path.{refl, sym, _∙_}
 use native.Mathlib.Omega.{arith}
 use borrow.Author.Needs.{needs}
-use Rattle.rings.specs.Refusal.{kept}
+use Rattle.algebra.specs.Refusal.{kept}
 use Rattle.cross.specs.Checks.{send-fine}
 use Rattle.cross.proofs.sender.send.Statement.{statement}
 use Rattle.cross.proofs.sender.send.Tie as tie

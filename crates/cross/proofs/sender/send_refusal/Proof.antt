@@ -4,7 +4,7 @@ use mathlib.Core.Path.{refl}
 use Prim.Native.Nat.{_<_}
 use native.Mathlib.Omega.{arith}
 use borrow.Author.Needs.{needs}
-use Rattle.rings.specs.Refusal.{need-yes, need-no}
+use Rattle.algebra.specs.Refusal.{need-yes, need-no}
 use Rattle.cross.specs.Cross.{cycle, sendRefusal}
 use Rattle.cross.proofs.sender.send_refusal.Statement.{statement}
 use Rattle.cross.proofs.sender.send_refusal.Tie as tie

@@ -4,7 +4,6 @@ use mathlib.Core.Path.{sym, _∙_}
 use native.Mathlib.Omega.{arith}
 use borrow.Author.Needs.{needs}
 use borrow.Author.Tests.{not-true, not-false}
-use Rattle.frame.specs.Slots.{marks-tested}
 use Rattle.frame.specs.Frame.Limits.{frame-kept, area-few, slots-few}
 use Rattle.frame.specs.Receiving.{receive-setting, receive-slots, receive-marks, receive-area, receive-mark, receive-decoded}
 use Rattle.frame.proofs.receiver.receive.Statement.{statement}
@@ -57,18 +56,18 @@ refused-requires-4 c κs = search needs
 returns-4 : tie.Need-returns-4
 returns-4 c = rw (c .refused4 .ensures) (receive-area _ _ _ _ (sym (c .before .before .before .before .before .before .before .before .before .is-allowed .ensures) ∙ not-false _ (c .before .before .before .before .before .before .before .before .if1 .left)) (c .before .before .before .before .before .before .if2 .left) (c .before .before .before .before .if3 .left) (c .before .if4 .taken))
 
-marks-fit-requires : tie.Need-marks-fit-requires
-marks-fit-requires c κs = search needs
+all-below-requires : tie.Need-all-below-requires
+all-below-requires c κs = search needs
 
 refused-requires-5 : tie.Need-refused-requires-5
 refused-requires-5 c κs = search needs
 
 returns-5 : tie.Need-returns-5
-returns-5 c = rw (c .refused5 .ensures) (receive-mark _ _ _ _ (sym (c .before .before .before .before .before .before .before .before .before .before .before .is-allowed .ensures) ∙ not-false _ (c .before .before .before .before .before .before .before .before .before .before .if1 .left)) (c .before .before .before .before .before .before .before .before .if2 .left) (c .before .before .before .before .before .before .if3 .left) (c .before .before .before .if4 .left) (sym (marks-tested (c .before .before .marks-fit .result) _ (c .before .before .marks-fit .ensures)) ∙ not-true _ (c .before .if5 .taken)))
+returns-5 c = rw (c .refused5 .ensures) (receive-mark _ _ _ _ (sym (c .before .before .before .before .before .before .before .before .before .before .before .is-allowed .ensures) ∙ not-false _ (c .before .before .before .before .before .before .before .before .before .before .if1 .left)) (c .before .before .before .before .before .before .before .before .if2 .left) (c .before .before .before .before .before .before .if3 .left) (c .before .before .before .if4 .left) (sym (c .before .before .all-below .ensures) ∙ not-true _ (c .before .if5 .taken)))
 
 receive-checked-requires : tie.Need-receive-checked-requires
 receive-checked-requires c κs =
-    let small = sym (marks-tested (c .before .before .marks-fit .result) (c .before .before .before .before .before .before .before .before .before .before .before .before .before .before .before .args .marks .now) (c .before .before .marks-fit .ensures)) ∙ not-false _ (c .before .if5 .left) in
+    let small = sym (c .before .before .all-below .ensures) ∙ not-false _ (c .before .if5 .left) in
     record {
       limits = frame-kept _ (sym (c .before .before .before .before .before .before .before .before .before .before .before .is-allowed .ensures) ∙ not-false _ (c .before .before .before .before .before .before .before .before .before .before .if1 .left));
       slots-size = c .before .before .before .before .before .before .before .before .if2 .left;
@@ -82,7 +81,7 @@ same-length c = search needs
 
 returns-6 : tie.Need-returns-6
 returns-6 c =
-    c .before .before .receive-checked .ensures ∙ receive-decoded _ _ _ _ (sym (c .before .before .before .before .before .before .before .before .before .before .before .before .before .before .is-allowed .ensures) ∙ not-false _ (c .before .before .before .before .before .before .before .before .before .before .before .before .before .if1 .left)) (c .before .before .before .before .before .before .before .before .before .before .before .if2 .left) (c .before .before .before .before .before .before .before .before .before .if3 .left) (c .before .before .before .before .before .before .if4 .left) (sym (marks-tested (c .before .before .before .before .before .marks-fit .result) _ (c .before .before .before .before .before .marks-fit .ensures)) ∙ not-false _ (c .before .before .before .before .if5 .left))
+    c .before .before .receive-checked .ensures ∙ receive-decoded _ _ _ _ (sym (c .before .before .before .before .before .before .before .before .before .before .before .before .before .before .is-allowed .ensures) ∙ not-false _ (c .before .before .before .before .before .before .before .before .before .before .before .before .before .if1 .left)) (c .before .before .before .before .before .before .before .before .before .before .before .if2 .left) (c .before .before .before .before .before .before .before .before .before .if3 .left) (c .before .before .before .before .before .before .if4 .left) (sym (c .before .before .before .before .before .all-below .ensures) ∙ not-false _ (c .before .before .before .before .if5 .left))
 
 pub receive-spec : {M : Type 1} → statement M
 receive-spec =
@@ -101,7 +100,7 @@ receive-spec =
     mul-if4
     refused-requires-4
     returns-4
-    marks-fit-requires
+    all-below-requires
     refused-requires-5
     returns-5
     receive-checked-requires

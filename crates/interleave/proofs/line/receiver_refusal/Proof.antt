@@ -2,7 +2,7 @@
 -- Assumes nothing.
 use mathlib.Core.Path.{refl, sym, _∙_}
 use borrow.Author.Needs.{needs}
-use Rattle.rings.specs.Refusal.{need-yes, need-no, first-none, first-some}
+use Rattle.algebra.specs.Refusal.{need-yes, need-no, first-none, first-some}
 use Rattle.interleave.specs.Setting.{receiverRefusal}
 use Rattle.interleave.proofs.line.receiver_refusal.Statement.{statement}
 use Rattle.interleave.proofs.line.receiver_refusal.Tie as tie

@@ -1,12 +1,10 @@
 -- `fresh_receiver` meets its contract: refused, it leaves both memories alone; else they have their exact length, and are filled with 0 and with 1.
 -- Assumes nothing.
-use mathlib.Core.Path.{sym, ap, _∙_}
-use Prim.Native.Nat.{ℕ}
-use lib.ListN.{replicate}
+use mathlib.Core.Path.{refl, sym, _∙_}
 use borrow.Author.Needs.{needs}
-use Rattle.rings.specs.Refusal.{kept}
+use Rattle.algebra.specs.Refusal.{kept}
 use Rattle.interleave.specs.Setting.{receiver-fine}
-use Rattle.interleave.specs.Steps.{freshAnswer}
+use Rattle.interleave.specs.Promises.{freshReceiver}
 use Rattle.interleave.proofs.receiver.fresh_receiver.Statement.{statement}
 use Rattle.interleave.proofs.receiver.fresh_receiver.Tie as tie
 
@@ -14,10 +12,8 @@ receiver-refusal-requires : tie.Need-receiver-refusal-requires
 receiver-refusal-requires c κs = search needs
 
 returns : tie.Need-returns
-returns c =
-    let a = c .before .before .before .before .args in
-    let e = c .before .receiver-refusal .ensures in
-    record { answer = ap (freshAnswer (a .branches) (a .unit) (a .n)) e; memory = rw (← e) (kept _ _ _ (c .if1 .taken)); held = rw (← e) (kept _ _ _ (c .if1 .taken)) }
+unfolding freshReceiver
+returns c = record { outcome = rw (← c .before .receiver-refusal .ensures) (kept _ _ _ (c .if1 .taken)) }
 
 fill-requires : tie.Need-fill-requires
 fill-requires c κs = search needs
@@ -32,15 +28,12 @@ same-length-2 : tie.Need-same-length-2
 same-length-2 c = search needs
 
 returns-2 : tie.Need-returns-2
+unfolding freshReceiver
 returns-2 c =
-    let a = c .before .before .before .before .before .before .before .before .before .before .before .before .args in
-    let e = sym (c .before .before .before .before .before .before .before .before .before .receiver-refusal .ensures) ∙ c .before .before .before .before .before .before .before .before .if1 .left in
+    let o = c .before .before .before .before .before .before .before .before in
+    let e = sym (o .before .receiver-refusal .ensures) ∙ o .if1 .left in
     let (f, same) = receiver-fine _ _ _ e in
-    record {
-      answer = ap (freshAnswer (a .branches) (a .unit) (a .n)) (sym e);
-      memory = rw e (c .before .before .before .before .before .before .fill .ensures ∙ ap (λ (z : ℕ). replicate z 0) (f .exact));
-      held = rw e (c .before .before .fill2 .ensures ∙ ap (λ (z : ℕ). replicate z 1) (same ∙ f .exact));
-    }
+    record { outcome = rw (e, c .before .before .before .before .before .before .fill .ensures, c .before .before .fill2 .ensures, same, f .exact) refl }
 
 pub fresh-receiver-spec : {M : Type 1} → statement M
 fresh-receiver-spec =

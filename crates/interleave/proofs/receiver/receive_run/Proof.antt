@@ -1,15 +1,15 @@
--- `receive_run` meets its contract: refused, all stays; else `receive_all` has made the steps.
+-- `receive_run` meets its contract: refused, all stays; else `run_steps` has made the steps, of the bytes and of the marks.
 -- Assumes nothing.
-use mathlib.Core.Path.{sym, ap, _∙_}
+use mathlib.Core.Path.{refl, sym, _∙_}
 use borrow.Author.Needs.{needs}
-use Rattle.rings.specs.Refusal.{kept}
-use Rattle.interleave.specs.Setting.{run-fine}
-use Rattle.interleave.specs.Steps.{Receiving}
+use Rattle.algebra.specs.Refusal.{kept}
+use Rattle.interleave.specs.Setting.{receive-fine}
+use Rattle.interleave.specs.Promises.{receiveRun}
 use Rattle.interleave.proofs.receiver.receive_run.Statement.{statement}
 use Rattle.interleave.proofs.receiver.receive_run.Tie as tie
 
-run-refusal-requires : tie.Need-run-refusal-requires
-run-refusal-requires c κs = search needs
+receive-refusal-requires : tie.Need-receive-refusal-requires
+receive-refusal-requires c κs = search needs
 
 same-length : tie.Need-same-length
 same-length c = search needs
@@ -18,19 +18,19 @@ same-length-2 : tie.Need-same-length-2
 same-length-2 c = search needs
 
 returns : tie.Need-returns
-returns c =
-    let e = c .before .run-refusal .ensures in
-    let h = c .if1 .taken in
-    record {
-      answer = rw (← e) (kept _ _ _ h);
-      memory = rw (← e) (kept _ _ _ h);
-      held = rw (← e) (kept _ _ _ h);
-      bytes = rw (← e) (kept _ _ _ h);
-      marks = rw (← e) (kept _ _ _ h);
-    }
+unfolding receiveRun
+returns c = record { outcome = rw (← c .before .receive-refusal .ensures) (kept _ _ _ (c .if1 .taken)) }
 
-receive-all-requires : tie.Need-receive-all-requires
-receive-all-requires c κs = run-fine _ _ _ _ _ (sym (c .before .before .before .before .before .run-refusal .ensures) ∙ c .before .before .before .before .if1 .left)
+run-steps-requires : tie.Need-run-steps-requires
+run-steps-requires c κs =
+    let checked = c .before .before in
+    receive-fine _ _ _ _ _ (sym (checked .before .receive-refusal .ensures) ∙ checked .if1 .left) .receiver .line
+
+run-steps-requires-2 : tie.Need-run-steps-requires-2
+run-steps-requires-2 c κs =
+    let checked = c .before .before .before .before .before .before .before .before .before in
+    let f = receive-fine _ _ _ _ _ (sym (checked .before .receive-refusal .ensures) ∙ checked .if1 .left) .receiver in
+    rw (← f .exact) at (f .line)
 
 same-length-3 : tie.Need-same-length-3
 same-length-3 c = search needs
@@ -45,26 +45,23 @@ same-length-6 : tie.Need-same-length-6
 same-length-6 c = search needs
 
 returns-2 : tie.Need-returns-2
+unfolding receiveRun
 returns-2 c =
-    let e = sym (c .before .before .before .before .before .before .before .before .before .before .before .before .before .before .run-refusal .ensures) ∙ c .before .before .before .before .before .before .before .before .before .before .before .before .before .if1 .left in
-    let s = c .before .before .before .before .before .before .before .before .receive-all .ensures in
-    record {
-      answer = rw e (ap (λ (z : Receiving). record { answer = 0; line = z .line }) s);
-      memory = rw e (ap (λ (z : Receiving). z .memory) s);
-      held = rw e (ap (λ (z : Receiving). z .held) s);
-      bytes = rw e (ap (λ (z : Receiving). z .bytes) s);
-      marks = rw e (ap (λ (z : Receiving). z .marks) s);
-    }
+    let marks = c .before .before .before .before in
+    let bytes = marks .before .before .before .before .before .before .before in
+    let checked = bytes .before .before .before in
+    record { outcome = rw (sym (checked .before .receive-refusal .ensures) ∙ checked .if1 .left, ← bytes .run-steps .ensures, ← marks .run-steps2 .ensures) refl }
 
 pub receive-run-spec : {M : Type 1} → statement M
 receive-run-spec =
     tie.close
     (tie.spec
-    run-refusal-requires
+    receive-refusal-requires
     same-length
     same-length-2
     returns
-    receive-all-requires
+    run-steps-requires
+    run-steps-requires-2
     same-length-3
     same-length-4
     same-length-5

@@ -1,12 +1,10 @@
 -- `fresh_sender` meets its contract: refused, it leaves the memory alone; else the memory has its exact length and is filled with zeros.
 -- Assumes nothing.
-use mathlib.Core.Path.{sym, ap, _∙_}
-use Prim.Native.Nat.{ℕ}
-use lib.ListN.{replicate}
+use mathlib.Core.Path.{refl, sym, _∙_}
 use borrow.Author.Needs.{needs}
-use Rattle.rings.specs.Refusal.{kept}
+use Rattle.algebra.specs.Refusal.{kept}
 use Rattle.interleave.specs.Setting.{line-fine}
-use Rattle.interleave.specs.Steps.{freshAnswer}
+use Rattle.interleave.specs.Promises.{freshSender}
 use Rattle.interleave.proofs.sender.fresh_sender.Statement.{statement}
 use Rattle.interleave.proofs.sender.fresh_sender.Tie as tie
 
@@ -14,10 +12,8 @@ line-refusal-requires : tie.Need-line-refusal-requires
 line-refusal-requires c κs = search needs
 
 returns : tie.Need-returns
-returns c =
-    let a = c .before .before .before .args in
-    let e = c .before .line-refusal .ensures in
-    record { answer = ap (freshAnswer (a .branches) (a .unit) (a .n)) e; memory = rw (← e) (kept _ _ _ (c .if1 .taken)) }
+unfolding freshSender
+returns c = record { outcome = rw (← c .before .line-refusal .ensures) (kept _ _ _ (c .if1 .taken)) }
 
 fill-requires : tie.Need-fill-requires
 fill-requires c κs = search needs
@@ -26,10 +22,11 @@ same-length : tie.Need-same-length
 same-length c = search needs
 
 returns-2 : tie.Need-returns-2
+unfolding freshSender
 returns-2 c =
-    let a = c .before .before .before .before .before .before .before .args in
-    let e = sym (c .before .before .before .before .before .line-refusal .ensures) ∙ c .before .before .before .before .if1 .left in
-    record { answer = ap (freshAnswer (a .branches) (a .unit) (a .n)) (sym e); memory = rw e (c .before .before .fill .ensures ∙ ap (λ (z : ℕ). replicate z 0) (line-fine _ _ e .exact)) }
+    let o = c .before .before .before .before in
+    let e = sym (o .before .line-refusal .ensures) ∙ o .if1 .left in
+    record { outcome = rw (e, c .before .before .fill .ensures, line-fine _ _ e .exact) refl }
 
 pub fresh-sender-spec : {M : Type 1} → statement M
 fresh-sender-spec =

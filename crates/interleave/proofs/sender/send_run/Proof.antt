@@ -1,10 +1,10 @@
--- `send_run` meets its contract: refused, all stays; else `send_all` has made the steps.
+-- `send_run` meets its contract: refused, all stays; else `run_steps` has made the steps.
 -- Assumes nothing.
-use mathlib.Core.Path.{sym, ap, _∙_}
+use mathlib.Core.Path.{refl, sym, _∙_}
 use borrow.Author.Needs.{needs}
-use Rattle.rings.specs.Refusal.{kept}
+use Rattle.algebra.specs.Refusal.{kept}
 use Rattle.interleave.specs.Setting.{line-fine}
-use Rattle.interleave.specs.Steps.{Sending}
+use Rattle.interleave.specs.Promises.{sendRun}
 use Rattle.interleave.proofs.sender.send_run.Statement.{statement}
 use Rattle.interleave.proofs.sender.send_run.Tie as tie
 
@@ -12,13 +12,11 @@ line-refusal-requires : tie.Need-line-refusal-requires
 line-refusal-requires c κs = search needs
 
 returns : tie.Need-returns
-returns c =
-    let e = c .before .line-refusal .ensures in
-    let h = c .if1 .taken in
-    record { answer = rw (← e) (kept _ _ _ h); memory = rw (← e) (kept _ _ _ h); bytes = rw (← e) (kept _ _ _ h) }
+unfolding sendRun
+returns c = record { outcome = rw (← c .before .line-refusal .ensures) (kept _ _ _ (c .if1 .taken)) }
 
-send-all-requires : tie.Need-send-all-requires
-send-all-requires c κs = line-fine _ _ (sym (c .before .before .before .line-refusal .ensures) ∙ c .before .before .if1 .left)
+run-steps-requires : tie.Need-run-steps-requires
+run-steps-requires c κs = let o = c .before .before in line-fine _ _ (sym (o .before .line-refusal .ensures) ∙ o .if1 .left)
 
 same-length : tie.Need-same-length
 same-length c = search needs
@@ -27,12 +25,13 @@ same-length-2 : tie.Need-same-length-2
 same-length-2 c = search needs
 
 returns-2 : tie.Need-returns-2
+unfolding sendRun
 returns-2 c =
-    let e = sym (c .before .before .before .before .before .before .before .before .line-refusal .ensures) ∙ c .before .before .before .before .before .before .before .if1 .left in
-    let s = c .before .before .before .before .send-all .ensures in
-    record { answer = rw e (ap (λ (z : Sending). record { answer = 0; line = z .line }) s); memory = rw e (ap (λ (z : Sending). z .memory) s); bytes = rw e (ap (λ (z : Sending). z .bytes) s) }
+    let ran = c .before .before .before .before in
+    let checked = ran .before .before .before in
+    record { outcome = rw (sym (checked .before .line-refusal .ensures) ∙ checked .if1 .left, ← ran .run-steps .ensures) refl }
 
 pub send-run-spec : {M : Type 1} → statement M
 send-run-spec =
     tie.close
-    (tie.spec line-refusal-requires returns send-all-requires same-length same-length-2 returns-2)
+    (tie.spec line-refusal-requires returns run-steps-requires same-length same-length-2 returns-2)

@@ -5,7 +5,8 @@ use mathlib.Core.Bool.{Bool, true, false, not}
 use mathlib.Core.Logic.{_≢_}
 use Prim.Native.Nat.{ℕ, zero, suc, _<_}
 use native.Mathlib.Omega.{arith}
+use lib.Dec.{T}
 use Rattle.algebra.specs.Sets.{put, put-yes, put-no}
 
 -- what the test decides must hold, or the call is refused with this number
 unfoldable pub need : {P : Type 0} → Dec P → ℕ → ℕ → ℕ
@@ -21,10 +22,10 @@ abbrev pub ifZero : {A : Type 0} → ℕ → A → A → A
 ifZero zero a b = a
 ifZero (suc k) a b = b
 
--- what a yes or no of the code says of a fact
-abbrev pub Says : Bool → Type 0 → Type 0
-Says true P = P
-Says false P = ¬ P
+-- a test of the specification, decided
+abbrev pub passes : (b : Bool) → Dec (T b)
+passes true = yes tt
+passes false = no λ t. t
 
 -- ---- laws
 
@@ -59,10 +60,11 @@ pub kept : {A : Type 0} (r : ℕ) (a b : A) → r ≢ 0 → b ≡ ifZero r a b
 kept zero a b h = absurd (h refl)
 kept (suc r) a b h = refl
 
-pub said-yes : {P : Type 0} (r : Bool) → Says r P → not r ≡ false → P
-said-yes true p e = p
-said-yes false p e = let z : _≡_ {A = ℕ} 0 1 = cc in absurd (omega arith)
+-- what the code's own test says of that of the specification
+pub test-yes : (r b : Bool) → r ≡ b → not r ≡ false → T b
+test-yes true b e h = rw (← e) tt
+test-yes false b e h = let z : _≡_ {A = ℕ} 0 1 = cc in absurd (omega arith)
 
-pub said-no : {P : Type 0} (r : Bool) → Says r P → not r ≡ true → ¬ P
-said-no true p e = let z : _≡_ {A = ℕ} 0 1 = cc in absurd (omega arith)
-said-no false p e = p
+pub test-no : (r b : Bool) → r ≡ b → not r ≡ true → ¬ T b
+test-no true b e h = let z : _≡_ {A = ℕ} 0 1 = cc in absurd (omega arith)
+test-no false b e h = λ t. rw (← e) at t
