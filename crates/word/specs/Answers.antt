@@ -90,9 +90,14 @@ abbrev pub figures : List ℕ → List ℕ → List ℕ → Figures
 figures marks received c = record { errors = errors marks received c; marked = marked marks received; bits = bits received c }
 
 -- a corrected word goes where `place` puts it; where there is none the answer is 4, and what was lent is left
-abbrev pub settle : (List ℕ → List ℕ) → List ℕ → List ℕ → List ℕ → Option (List ℕ) → DecodeOutcome
-settle place marks received lent none = refused 4 lent
-settle place marks received lent (some c) = record { number = 0; figures = figures marks received c; word = place c }
+abbrev pub placed : (List ℕ → List ℕ) → List ℕ → List ℕ → List ℕ → Option (List ℕ) → DecodeOutcome
+placed place marks received lent none = refused 4 lent
+placed place marks received lent (some c) = record { number = 0; figures = figures marks received c; word = place c }
+
+-- what a received word is answered where its checks give this number
+unfoldable pub answering : Setting → (received marks : List ℕ) → ℕ → (List ℕ → List ℕ) → (lent : List ℕ) → DecodeOutcome
+answering s received marks number place lent =
+    unless number (λ k. refused k lent) (placed place marks received lent (corrected s marks received))
 
 -- both lengths are n; every symbol is below 2^m, and every mark 0 or 1
 unfoldable pub decodeRefusal : Setting → (received marks : List ℕ) → ℕ
@@ -101,8 +106,7 @@ decodeRefusal s received marks =
 
 -- in place: the corrected word is written over the received one
 unfoldable pub decoding : Setting → (received marks : List ℕ) → DecodeOutcome
-decoding s received marks =
-    unless (decodeRefusal s received marks) (λ k. refused k received) (settle (λ c. c) marks received received (corrected s marks received))
+decoding s received marks = answering s received marks (decodeRefusal s received marks) (λ c. c) received
 
 -- and the part's length is k
 unfoldable pub partRefusal : Setting → (received marks part : List ℕ) → ℕ
@@ -112,5 +116,4 @@ partRefusal s received marks part =
 
 -- the received word only read: the corrected word's k message symbols are written to the lent part
 unfoldable pub decodingPart : Setting → (received marks part : List ℕ) → DecodeOutcome
-decodingPart s received marks part =
-    unless (partRefusal s received marks part) (λ k. refused k part) (settle (take (messageSize s)) marks received part (corrected s marks received))
+decodingPart s received marks part = answering s received marks (partRefusal s received marks part) (take (messageSize s)) part

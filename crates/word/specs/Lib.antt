@@ -14,4 +14,4 @@ pub mod Means
 pub mod Distance
 pub mod Completion
 pub mod Solution
-pub mod Settled
+pub mod Correcting

@@ -8,7 +8,7 @@ use native.Mathlib.Nat.{not-suc-le-zero}
 use lib.ListN.{length, take}
 use Rattle.word.specs.Setting.{messageSize}
 use Rattle.word.specs.Code.{encoded, corrected}
-use Rattle.word.specs.Answers.{numberOf, figuresOf, encodedNumber, noFigures, EncodeOutcome, encodeOutcome, decodeOutcome, refused, unless, encodeRefusal, encoding, figures, settle, decodeRefusal, decoding, partRefusal, decodingPart}
+use Rattle.word.specs.Answers.{numberOf, figuresOf, encodedNumber, noFigures, EncodeOutcome, encodeOutcome, decodeOutcome, refused, unless, encodeRefusal, encoding, figures, placed, answering, decodeRefusal, decoding, partRefusal, decodingPart}
 use Rattle.word.specs.Promises.{Encodes, Decodes, DecodesPart, encodes-once}
 use Rattle.word.specs.Refusals.{MessageChecked, message-passes, Checked, passes, part-sized}
 use Rattle.word.specs.declared.Setting.{Setting}
@@ -59,35 +59,58 @@ pub record Refuses (k : ℕ) (d : Decoded) : Type 0 where
 refuses-outcome : (k : ℕ) (d : Decoded) (w : List ℕ) → Refuses k d → decodeOutcome d w ≡ refused k w
 refuses-outcome k d w r = rw (r .number, r .none)
 
+module _ (s : Setting) (received marks : List ℕ) (place : List ℕ → List ℕ) (lent : List ℕ) where
+  pub answering-refused : (k z : ℕ) (d : Decoded) → k ≡ z → 0 < k → Refuses k d → decodeOutcome d lent ≡ answering s received marks z place lent
+  unfolding answering
+  answering-refused k z d e h r = refuses-outcome k d lent r ∙ unless-refused (λ k. refused k lent) _ k z e h
+
+  module _ (z : ℕ) (e : 0 ≡ z) where
+    looked-at : placed place marks received lent (corrected s marks received) ≡ answering s received marks z place lent
+    unfolding answering
+    looked-at = unless-not _ _ z e
+
+    pub answering-found : (w : List ℕ) (f : Figures) → corrected s marks received ≡ some w → f ≡ figures marks received w
+        → decodeOutcome (Done f) (place w) ≡ answering s received marks z place lent
+    answering-found w f g h = rw h (sym (ap (placed place marks received lent) g) ∙ looked-at)
+
+    pub answering-none : corrected s marks received ≡ none → decodeOutcome BeyondReach lent ≡ answering s received marks z place lent
+    answering-none g = sym (ap (placed place marks received lent) g) ∙ looked-at
+
 module _ (s : Setting) (received marks : List ℕ) where
+  pub decodes-by : (z : ℕ) (d : Decoded) (left : List ℕ) → z ≡ decodeRefusal s received marks → decodeOutcome d left ≡ answering s received marks z (λ c. c) received
+      → Decodes s received marks d left
+  unfolding decoding
+  decodes-by z d left e p = record { outcome = p ∙ ap (λ (y : ℕ). answering s received marks y (λ c. c) received) e }
+
   pub decode-refused : (k : ℕ) (d : Decoded) → k ≡ decodeRefusal s received marks → 0 < k → Refuses k d → Decodes s received marks d received
   unfolding decoding
-  decode-refused k d e h r = record { outcome = refuses-outcome k d received r ∙ unless-refused (λ k. refused k received) _ k _ e h }
+  decode-refused k d e h r = record { outcome = answering-refused s received marks _ received k _ d e h r }
 
   module _ (c : Checked s marks received) where
-    in-place : settle (λ c. c) marks received received (corrected s marks received) ≡ decoding s received marks
-    unfolding decoding
-    in-place = unless-not _ _ _ (passes s received marks c)
-
     pub decode-found : (w : List ℕ) (f : Figures) → corrected s marks received ≡ some w → f ≡ figures marks received w → Decodes s received marks (Done f) w
-    decode-found w f g h = record { outcome = rw h (sym (ap (settle (λ c. c) marks received received) g) ∙ in-place) }
+    unfolding decoding
+    decode-found w f g h = record { outcome = answering-found s received marks (λ c. c) received _ (passes s received marks c) w f g h }
 
     pub decode-lost : corrected s marks received ≡ none → Decodes s received marks BeyondReach received
-    decode-lost g = record { outcome = sym (ap (settle (λ c. c) marks received received) g) ∙ in-place }
+    unfolding decoding
+    decode-lost g = record { outcome = answering-none s received marks _ received _ (passes s received marks c) g }
 
 module _ (s : Setting) (received marks part : List ℕ) where
+  pub part-by : (z : ℕ) (d : Decoded) (left : List ℕ) → z ≡ partRefusal s received marks part → decodeOutcome d left ≡ answering s received marks z (take (messageSize s)) part
+      → DecodesPart s received marks part d left
+  unfolding decodingPart
+  part-by z d left e p = record { outcome = p ∙ ap (λ (y : ℕ). answering s received marks y (take (messageSize s)) part) e }
+
   pub part-refused : (k : ℕ) (d : Decoded) → k ≡ partRefusal s received marks part → 0 < k → Refuses k d → DecodesPart s received marks part d part
   unfolding decodingPart
-  part-refused k d e h r = record { outcome = refuses-outcome k d part r ∙ unless-refused (λ k. refused k part) _ k _ e h }
+  part-refused k d e h r = record { outcome = answering-refused s received marks _ part k _ d e h r }
 
   module _ (n : length part ≡ messageSize s) (c : Checked s marks received) where
-    to-part : settle (take (messageSize s)) marks received part (corrected s marks received) ≡ decodingPart s received marks part
-    unfolding decodingPart
-    to-part = unless-not _ _ _ (passes s received marks c ∙ part-sized s received marks part n)
-
     pub part-found : (w : List ℕ) (f : Figures) → corrected s marks received ≡ some w → f ≡ figures marks received w
         → DecodesPart s received marks part (Done f) (take (messageSize s) w)
-    part-found w f g h = record { outcome = rw h (sym (ap (settle (take (messageSize s)) marks received part) g) ∙ to-part) }
+    unfolding decodingPart
+    part-found w f g h = record { outcome = answering-found s received marks (take (messageSize s)) part _ (passes s received marks c ∙ part-sized s received marks part n) w f g h }
 
     pub part-lost : corrected s marks received ≡ none → DecodesPart s received marks part BeyondReach part
-    part-lost g = record { outcome = sym (ap (settle (take (messageSize s)) marks received part) g) ∙ to-part }
+    unfolding decodingPart
+    part-lost g = record { outcome = answering-none s received marks _ part _ (passes s received marks c ∙ part-sized s received marks part n) g }

@@ -1,24 +1,29 @@
 // The word code: document 01, section Word code. A word of n symbols is encoded from its k message symbols, and a received one is
 // corrected in place, or its message handed to a part of an area. Every call checks its own input, in the paper's order. What each promises is
 // defined in specs/, in the paper's order.
+pub mod correct;
 pub mod count;
 pub mod limits;
 pub mod numbers;
-pub mod settle;
 
 ghost use mathlib.Core.Path.{_≡_};
 ghost use Prim.Native.Nat.{_<_, _≤_};
+ghost use lib.ListN.{length};
 ghost use Rattle.word.specs.Answers.{encodedNumber};
 ghost use Rattle.word.specs.Promises.{Encodes, Decodes, DecodesPart};
+ghost use Rattle.word.specs.Refusals.{Checked};
 ghost use Rattle.word.specs.Met.{Refuses};
+ghost use Rattle.word.specs.Correcting.{Answered};
 use buffers::copy;
 use buffers::join;
+use buffers::work_space;
 use checks::register::check_symbols;
+use correct::correct_word;
 use limits::decode_refusal;
 use limits::encode_refusal;
 pub use limits::is_allowed;
 use limits::part_refusal;
-use settle::settle;
+use numbers::number_of;
 
 // What a word code is set to: m bits a symbol, n symbols a word, r check symbols, and b, the power of a at which its zeros start.
 pub struct Setting {
@@ -95,24 +100,38 @@ fn decode_refused(number: u8) -> Decoded
     Decoded::BadSymbol
 }
 
+// What a received word is answered, once its checks have given this number. An accepted word's correction is put at the front of the
+// work space.
+fn answer(s: Setting, number: u8, received: &[u8], marks: &[u8], work: &mut [u8]) -> Decoded
+    requires { ⌜ (number ≤ 3) × (number ≡ 0 → Checked s (now marks) (now received)) × (length (now work) ≡ 255) ⌝ }
+    ensures { λ d. ⌜ Answered s number (now (received .entry)) (now (marks .entry)) (now (work .exit)) d ⌝ }
+{
+    if number != 0 {
+        return decode_refused(number);
+    }
+    let n = s.n;
+    let correction = correct_word(s, received, marks, &mut work[0..n]);
+    if !correction.found {
+        return Decoded::BeyondReach;
+    }
+    let figures = correction.figures;
+    Decoded::Done(figures)
+}
+
 // Corrects a received word where it stands to the codeword with 2e + f ≤ r; its marks are only read.
 // Refused 1 for the setting, 2 for a length, 3 for a symbol of 2^m or more or a mark above 1, and 4 where no codeword qualifies; the
 // word is then left as it was.
 pub fn decode(s: Setting, word: &mut [u8], marks: &[u8]) -> Decoded
     ensures { λ d. ⌜ Decodes s (now (word .entry)) (now (marks .entry)) d (now (word .exit)) ⌝ }
 {
+    let mut work = work_space();
     let number = decode_refusal(s, word, marks);
-    if number != 0 {
-        return decode_refused(number);
-    }
-    let mut work: [u8; 255] = [0; 255];
-    let answer = settle(s, word, marks, &mut work);
-    if !answer.found {
-        return Decoded::BeyondReach;
+    let d = answer(s, number, word, marks, &mut work);
+    if number_of(d) != 0 {
+        return d;
     }
     copy(&work, word);
-    let figures = answer.figures;
-    Decoded::Done(figures)
+    d
 }
 
 // The same with the received word only read: the k message symbols of the corrected word go to the lent part. Refused as `decode`
@@ -120,16 +139,12 @@ pub fn decode(s: Setting, word: &mut [u8], marks: &[u8]) -> Decoded
 pub fn decode_part(s: Setting, received: &[u8], marks: &[u8], part: &mut [u8]) -> Decoded
     ensures { λ d. ⌜ DecodesPart s (now (received .entry)) (now (marks .entry)) (now (part .entry)) d (now (part .exit)) ⌝ }
 {
+    let mut work = work_space();
     let number = part_refusal(s, received, marks, part);
-    if number != 0 {
-        return decode_refused(number);
-    }
-    let mut work: [u8; 255] = [0; 255];
-    let answer = settle(s, received, marks, &mut work);
-    if !answer.found {
-        return Decoded::BeyondReach;
+    let d = answer(s, number, received, marks, &mut work);
+    if number_of(d) != 0 {
+        return d;
     }
     copy(&work, part);
-    let figures = answer.figures;
-    Decoded::Done(figures)
+    d
 }

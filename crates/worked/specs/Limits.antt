@@ -13,7 +13,7 @@ use lib.ListN.{length}
 use Rattle.field.specs.Answers.{isField}
 use Rattle.word.specs.Setting.{Allowed, allowed, allowed-yes, allowed-no}
 use Rattle.word.specs.Code.{corrected}
-use Rattle.word.specs.Answers.{EncodeOutcome, DecodeOutcome, refusal, unless, encodeRefusal, encoding, settle, decodeRefusal, decoding, partRefusal, decodingPart}
+use Rattle.word.specs.Answers.{EncodeOutcome, DecodeOutcome, refusal, unless, encodeRefusal, encoding, placed, answering, decodeRefusal, decoding, partRefusal, decodingPart}
 use Rattle.word.specs.Promises.{Encodes, Decodes, DecodesPart, encodes-once, decodes-once, decodes-part-once}
 use Rattle.word.specs.Refusals.{encode-setting, decode-setting, part-setting}
 use Rattle.word.specs.Met.{encode-refused, decode-refused, part-refused}
@@ -90,12 +90,12 @@ past number refuse f true true o h e = h e
 not-one : _≢_ {A = ℕ} 0 1
 not-one e = omega arith
 
-corrects : (place : List ℕ → List ℕ) (marks received lent : List ℕ) (o : Option (List ℕ)) → settle place marks received lent o .number ≢ 1
+corrects : (place : List ℕ → List ℕ) (marks received lent : List ℕ) (o : Option (List ℕ)) → placed place marks received lent o .number ≢ 1
 corrects place marks received lent none e = omega arith
 corrects place marks received lent (some c) e = omega arith
 
 stands : (s : Setting) → true ≡ allowed s → Stands s
-unfolding encodeRefusal encoding decodeRefusal decoding partRefusal decodingPart
+unfolding encodeRefusal encoding answering decodeRefusal decoding partRefusal decodingPart
 stands s a = record {
   encode = λ message held left d p e. past (λ (o : EncodeOutcome). o .number) _ (λ k. refl) _ _ _ not-one (rw (← a, e) at (sym (ap (λ (o : EncodeOutcome). o .number) (p .outcome))));
   decode = λ received marks left d p e. past (λ (o : DecodeOutcome). o .number) _ (λ k. refl) _ _ _ (corrects _ _ _ _ (corrected s marks received)) (rw (← a, e) at (sym (ap (λ (o : DecodeOutcome). o .number) (p .outcome))));

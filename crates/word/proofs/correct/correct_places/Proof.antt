@@ -1,10 +1,10 @@
--- `settle::repair` meets its contract: each step's promise is a field of it.
+-- `correct_places` meets its contract: each step's promise is a field of it.
 -- Assumes nothing.
 use native.Mathlib.Numerals.{add-one}
 use native.Mathlib.Omega.{arith}
 use borrow.Author.Needs.{needs}
-use Rattle.word.proofs.settle.repair.Statement.{statement}
-use Rattle.word.proofs.settle.repair.Tie as tie
+use Rattle.word.proofs.correct.correct_places.Statement.{statement}
+use Rattle.word.proofs.correct.correct_places.Tie as tie
 
 sub-t : tie.Need-sub-t
 sub-t c = search needs
@@ -44,8 +44,8 @@ returns c = record {
   are-corrected = c .before .before .correct .ensures;
 }
 
-pub repair-spec : {M : Type 1} → statement M
-repair-spec =
+pub correct-places-spec : {M : Type 1} → statement M
+correct-places-spec =
     tie.close
     (tie.spec
     sub-t

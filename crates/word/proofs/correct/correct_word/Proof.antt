@@ -1,26 +1,26 @@
--- `settle::solve` meets its contract: more marks than check symbols and a received codeword are laws of `Settles`, and `mend` promises
+-- `correct_word` meets its contract: more marks than check symbols and a received codeword are laws of `Corrects`, and `correct_errors` promises
 -- the rest.
 -- Assumes nothing.
 use mathlib.Core.Path.{sym, _∙_}
 use native.Mathlib.Omega.{arith}
 use borrow.Author.Needs.{needs}
 use Rattle.word.specs.Setting.{limits, at-most}
-use Rattle.word.specs.Settled.{marks-counted, copied, overmarked, found-clean}
-use Rattle.word.proofs.settle.solve.Statement.{statement}
-use Rattle.word.proofs.settle.solve.Tie as tie
+use Rattle.word.specs.Correcting.{marks-counted, copied, overmarked, found-clean}
+use Rattle.word.proofs.correct.correct_word.Statement.{statement}
+use Rattle.word.proofs.correct.correct_word.Tie as tie
 
 count-marks-requires : tie.Need-count-marks-requires
 count-marks-requires c κs =
     let k = c .before .before .before .pre .0 in
     (omega (arith, k .marks-size, at-most _ (limits _ (k .setting))), k .marks-small)
 
-lost-requires : tie.Need-lost-requires
-lost-requires c κs = search needs
+none-found-requires : tie.Need-none-found-requires
+none-found-requires c κs = search needs
 
 returns : tie.Need-returns
 returns c =
     let start = c .before .before .before .before .before .before .before in
-    overmarked _ _ _ (start .pre .0) _ _ _ (start .pre .1) (marks-counted _ _ _ (start .pre .0) _ (c .before .before .before .count-marks .ensures .0)) (c .before .if1 .taken) (c .lost .ensures)
+    overmarked _ _ _ (start .pre .0) _ _ _ (start .pre .1) (marks-counted _ _ _ (start .pre .0) _ (c .before .before .before .count-marks .ensures .0)) (c .before .if1 .taken) (c .none-found .ensures)
 
 copy-requires : tie.Need-copy-requires
 copy-requires c κs =
@@ -50,8 +50,8 @@ returns-2 c =
     (found-clean _ _ _ k _ (marks-counted _ _ _ k _ (c .before .before .before .before .before .before .before .before .before .before .count-marks .ensures .0)) (omega arith) _ (c .before .before .before .syndromes .ensures) _
     (sym (c .before .before .all-zero .ensures) ∙ c .before .if2 .taken) (c .found .ensures))
 
-mend-requires : tie.Need-mend-requires
-mend-requires c κs =
+correct-errors-requires : tie.Need-correct-errors-requires
+correct-errors-requires c κs =
     let start = c .before .before .before .before .before .before .before .before .before .before .before .before .before .before in
     let k = start .pre .0 in (
       record { checked = k; counted = marks-counted _ _ _ k _ (c .before .before .before .before .before .before .before .before .before .before .count-marks .ensures .0); few = omega arith; syndromes = c .before .before .before .syndromes .ensures },
@@ -62,14 +62,14 @@ same-length-2 : tie.Need-same-length-2
 same-length-2 c = search needs
 
 returns-3 : tie.Need-returns-3
-returns-3 c = c .before .before .mend .ensures
+returns-3 c = c .before .before .correct-errors .ensures
 
-pub solve-spec : {M : Type 1} → statement M
-solve-spec =
+pub correct-word-spec : {M : Type 1} → statement M
+correct-word-spec =
     tie.close
     (tie.spec
     count-marks-requires
-    lost-requires
+    none-found-requires
     returns
     copy-requires
     syndromes-requires
@@ -77,6 +77,6 @@ solve-spec =
     found-requires
     same-length
     returns-2
-    mend-requires
+    correct-errors-requires
     same-length-2
     returns-3)

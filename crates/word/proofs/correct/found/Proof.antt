@@ -1,9 +1,9 @@
--- `settle::found` meets its contract: each count is small enough for its place.
+-- `found` meets its contract: each count is small enough for its place.
 -- Assumes nothing.
 use mathlib.Core.Path.{refl}
 use native.Mathlib.Omega.{arith}
-use Rattle.word.proofs.settle.found.Statement.{statement}
-use Rattle.word.proofs.settle.found.Tie as tie
+use Rattle.word.proofs.correct.found.Statement.{statement}
+use Rattle.word.proofs.correct.found.Tie as tie
 
 cast-t4 : tie.Need-cast-t4
 cast-t4 c = omega arith

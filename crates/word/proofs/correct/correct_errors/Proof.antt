@@ -1,4 +1,4 @@
--- `settle::mend` meets its contract: each return is one law of `Settles`, from what the steps before it promise.
+-- `correct_errors` meets its contract: each return is one law of `Corrects`, from what the steps before it promise.
 -- Assumes nothing.
 use mathlib.Core.Path.{sym, ap, _∙_}
 use native.Mathlib.Omega.{arith}
@@ -6,12 +6,12 @@ use borrow.Author.Needs.{needs}
 use borrow.Author.Tests.{not-true, not-false}
 use lib.ListN.{length}
 use Rattle.word.specs.Setting.{limits, at-most}
-use Rattle.word.specs.Settled.{lost-left, lost-far, found-mended}
-use Rattle.word.proofs.settle.mend.Statement.{statement}
-use Rattle.word.proofs.settle.mend.Tie as tie
+use Rattle.word.specs.Correcting.{lost-left, lost-far, found-corrected}
+use Rattle.word.proofs.correct.correct_errors.Statement.{statement}
+use Rattle.word.proofs.correct.correct_errors.Tie as tie
 
-repair-requires : tie.Need-repair-requires
-repair-requires c κs =
+correct-places-requires : tie.Need-correct-places-requires
+correct-places-requires c κs =
     let start = c .before .before .before .before in
     let k = start .pre .0 .checked in
     (at-most _ (limits _ (k .setting)), limits _ (k .setting) .high, limits _ (k .setting) .start, start .pre .0 .few, k .marks-size, ap length (start .pre .1) ∙ k .size)
@@ -19,8 +19,8 @@ repair-requires c κs =
 all-zero-requires : tie.Need-all-zero-requires
 all-zero-requires c κs = limits _ (c .before .before .before .before .before .before .before .pre .0 .checked .setting) .high
 
-lost-requires : tie.Need-lost-requires
-lost-requires c κs = search needs
+none-found-requires : tie.Need-none-found-requires
+none-found-requires c κs = search needs
 
 same-length : tie.Need-same-length
 same-length c = search needs
@@ -29,13 +29,13 @@ returns : tie.Need-returns
 returns c =
     let start = c .before .before .before .before .before .before .before .before .before .before in
     let k = start .pre .0 in
-    lost-left _ _ _ (k .checked) _ (k .counted) (k .few) _ (k .syndromes) _ _ (rw (start .pre .1) at (c .before .before .before .before .before .repair .ensures)) _
-    (sym (c .before .before .all-zero .ensures) ∙ not-true _ (c .before .if1 .taken)) (c .lost .ensures)
+    lost-left _ _ _ (k .checked) _ (k .counted) (k .few) _ (k .syndromes) _ _ (rw (start .pre .1) at (c .before .before .before .before .before .correct-places .ensures)) _
+    (sym (c .before .before .all-zero .ensures) ∙ not-true _ (c .before .if1 .taken)) (c .none-found .ensures)
 
 count-errors-requires : tie.Need-count-errors-requires
 count-errors-requires c κs =
     let k = c .before .before .before .before .before .before .before .before .before .before .pre .0 .checked in
-    (omega (arith, k .size, at-most _ (limits _ (k .setting))), k .marks-size ∙ sym (k .size), c .before .before .before .before .before .repair .ensures .are-corrected .size ∙ sym (k .size))
+    (omega (arith, k .size, at-most _ (limits _ (k .setting))), k .marks-size ∙ sym (k .size), c .before .before .before .before .before .correct-places .ensures .are-corrected .size ∙ sym (k .size))
 
 mul-if2 : tie.Need-mul-if2
 mul-if2 c =
@@ -47,8 +47,8 @@ add-if2 c =
     let k = c .before .before .before .before .before .before .before .before .before .before .before .pre .0 in
     omega (arith, c .count-errors .ensures .1, k .few, k .checked .size, limits _ (k .checked .setting) .high, at-most _ (limits _ (k .checked .setting)))
 
-lost-requires-2 : tie.Need-lost-requires-2
-lost-requires-2 c κs = search needs
+none-found-requires-2 : tie.Need-none-found-requires-2
+none-found-requires-2 c κs = search needs
 
 same-length-2 : tie.Need-same-length-2
 same-length-2 c = search needs
@@ -57,13 +57,13 @@ returns-2 : tie.Need-returns-2
 returns-2 c =
     let start = c .before .before .before .before .before .before .before .before .before .before .before .before .before .before in
     let k = start .pre .0 in
-    lost-far _ _ _ (k .checked) _ (k .counted) (k .few) _ (k .syndromes) _ _ (rw (start .pre .1) at (c .before .before .before .before .before .before .before .before .before .repair .ensures)) _ _
-    (c .before .before .before .count-errors .ensures .0) (c .before .if2 .taken) (c .lost2 .ensures)
+    lost-far _ _ _ (k .checked) _ (k .counted) (k .few) _ (k .syndromes) _ _ (rw (start .pre .1) at (c .before .before .before .before .before .before .before .before .before .correct-places .ensures)) _ _
+    (c .before .before .before .count-errors .ensures .0) (c .before .if2 .taken) (c .none-found2 .ensures)
 
 count-bits-requires : tie.Need-count-bits-requires
 count-bits-requires c κs =
     let k = c .before .before .before .before .before .before .before .before .before .before .before .before .before .before .pre .0 .checked in
-    (omega (arith, k .size, at-most _ (limits _ (k .setting))), c .before .before .before .before .before .before .before .before .before .repair .ensures .are-corrected .size ∙ sym (k .size))
+    (omega (arith, k .size, at-most _ (limits _ (k .setting))), c .before .before .before .before .before .before .before .before .before .correct-places .ensures .are-corrected .size ∙ sym (k .size))
 
 found-requires : tie.Need-found-requires
 found-requires c κs =
@@ -78,22 +78,22 @@ returns-3 : tie.Need-returns-3
 returns-3 c =
     let start = c .before .before .before .before .before .before .before .before .before .before .before .before .before .before .before .before in
     let k = start .pre .0 in
-    found-mended _ _ _ (k .checked) _ (k .counted) (k .few) _ (k .syndromes) _ _ (rw (start .pre .1) at (c .before .before .before .before .before .before .before .before .before .before .before .repair .ensures)) _ _
+    found-corrected _ _ _ (k .checked) _ (k .counted) (k .few) _ (k .syndromes) _ _ (rw (start .pre .1) at (c .before .before .before .before .before .before .before .before .before .before .before .correct-places .ensures)) _ _
     (c .before .before .before .before .before .count-errors .ensures .0) (omega arith) (sym (c .before .before .before .before .before .before .before .before .all-zero .ensures) ∙ not-false _ (c .before .before .before .before .before .before .before .if1 .left)) _ (c .before .count-bits .ensures .0) (c .found .ensures)
 
-pub mend-spec : {M : Type 1} → statement M
-mend-spec =
+pub correct-errors-spec : {M : Type 1} → statement M
+correct-errors-spec =
     tie.close
     (tie.spec
-    repair-requires
+    correct-places-requires
     all-zero-requires
-    lost-requires
+    none-found-requires
     same-length
     returns
     count-errors-requires
     mul-if2
     add-if2
-    lost-requires-2
+    none-found-requires-2
     same-length-2
     returns-2
     count-bits-requires

@@ -1,0 +1,174 @@
+-- How a word is corrected: what the steps have made, what they promise together, and the laws for each way out.
+-- Assumes nothing.
+use mathlib.Core.Path.{_≡_, refl, sym, ap, _∙_, subst}
+use mathlib.Core.Bool.{true, false}
+use mathlib.Core.Logic.{_≢_}
+use mathlib.Core.List.{List, _++_}
+use mathlib.Core.Option.{some, none}
+use Prim.Native.Nat.{ℕ, suc, _+_, _-_, _*_, _/_, _≤_, _<_}
+use native.Mathlib.Omega.{arith}
+use lib.Dec.{T}
+use lib.ListN.{length, take}
+use lib.Seq.{take-length, take-take, take-append-seam}
+use Rattle.algebra.specs.Tests.{at, total}
+use Rattle.word.specs.Word.{errors, marked, bits}
+use Rattle.word.specs.Codeword.{qualifies, Codeword, near, is-near}
+use Rattle.word.specs.Distance.{errors-self, bits-self}
+use Rattle.word.specs.Code.{corrected}
+use Rattle.word.specs.Code.Laws.{corrected-only, corrected-none}
+use Rattle.word.specs.Answers.{numberOf, decodeOutcome, figures, answering}
+use Rattle.word.specs.Refusals.{Checked}
+use Rattle.word.specs.Met.{Refuses, answering-refused, answering-found, answering-none}
+use Rattle.checks.specs.Syndromes.{Syndromes, allZero, allZero-at, allZero-yes}
+use Rattle.decoder.specs.Peeling.{PeeledAll}
+use Rattle.decoder.specs.Elimination.{KernelVector}
+use Rattle.decoder.specs.Candidates.{Candidates}
+use Rattle.decoder.specs.Corrections.{Corrected}
+use Rattle.word.specs.Solution.{clean, solved, left-zero, made-codeword}
+use Rattle.word.specs.declared.Setting.{Setting}
+use Rattle.word.specs.declared.Figures.{Figures}
+use Rattle.word.specs.declared.Decoded.{Decoded}
+use Rattle.word.specs.declared.Decoded.the-variants.{Done, BeyondReach}
+use Rattle.word.specs.declared.correct.Correction.{Correction}
+
+-- what the steps have made on the way to the word after them
+pub record Steps (s : Setting) (marks : List ℕ) (f : ℕ) (sums before after rest : List ℕ) : Type 0 where
+  pub peeled : List ℕ
+  pub vector : List ℕ
+  pub flags : List ℕ
+  pub is-peeled : PeeledAll (s .m) (s .n) marks (s .n) sums peeled
+  pub is-kernel : KernelVector (s .m) ((s .r - f) / 2) peeled vector
+  pub are-candidates : Candidates (s .m) (s .n) marks vector (suc ((s .r - f) / 2)) flags
+  pub are-corrected : Corrected (s .m) (s .n) (s .b) flags sums before after rest
+
+-- a codeword was found, with these figures
+pub record FoundWith (e f b : ℕ) (r : Correction) : Type 0 where
+  pub found : r .found ≡ true
+  pub figures : r .figures ≡ record { errors = e; marked = f; bits = b }
+
+-- what is known of a received word once its marks are counted and its syndromes taken
+pub record Measured (s : Setting) (marks received : List ℕ) (f : ℕ) (sums : List ℕ) : Type 0 where
+  pub checked : Checked s marks received
+  pub counted : f ≡ marked marks received
+  pub few : f ≤ s .r
+  pub syndromes : Syndromes (s .m) (s .b) received sums
+
+-- a codeword was found, it is in out, and the figures are its own; or there is none
+pub record Corrects (s : Setting) (marks received out : List ℕ) (r : Correction) : Type 0 where
+  pub size : length out ≡ s .n
+  pub found : r .found ≡ true → (corrected s marks received ≡ some out) × (r .figures ≡ figures marks received out)
+  pub lost : r .found ≡ false → corrected s marks received ≡ none
+
+different : true ≡ false → ⊥
+different e = let z : _≡_ {A = ℕ} 0 1 = cc in omega arith
+
+module _ (s : Setting) (marks received : List ℕ) (ch : Checked s marks received) where
+  corrects-none : (out : List ℕ) (r : Correction) → length out ≡ s .n → r .found ≡ false → ((c : List ℕ) → T (qualifies s marks received c) → ⊥) → Corrects s marks received out r
+  corrects-none out r n e h = record { size = n; found = λ g. absurd (different (sym g ∙ e)); lost = λ g. corrected-none s marks received h }
+
+  corrects-found : (out : List ℕ) (r : Correction) → length out ≡ s .n → r .found ≡ true → r .figures ≡ figures marks received out → T (qualifies s marks received out) → Corrects s marks received out r
+  corrects-found out r n e g q = record { size = n; found = λ h. (corrected-only s (ch .setting) marks received (ch .size) out q, g); lost = λ h. absurd (different (sym e ∙ h)) }
+
+  -- the marks that were counted
+  pub marks-counted : (f : ℕ) → f ≡ total (length marks) (at marks) → f ≡ marked marks received
+  unfolding marked
+  marks-counted f e = e ∙ ap (λ (k : ℕ). total k (at marks)) (ch .marks-size ∙ sym (ch .size))
+
+  -- more marks than check symbols
+  pub overmarked : (out : List ℕ) (r : Correction) (f : ℕ) → length out ≡ s .n → f ≡ marked marks received → s .r < f → r .found ≡ false → Corrects s marks received out r
+  overmarked out r f n e l g = corrects-none out r n g λ c q. omega (arith, near s marks received c q .bound)
+
+  module _ (f : ℕ) (ef : f ≡ marked marks received) (few : f ≤ s .r) (S : List ℕ) (syn : Syndromes (s .m) (s .b) received S) where
+    -- a received codeword
+    pub found-clean : (r : Correction) → allZero (s .m) (s .r) S ≡ true → FoundWith 0 f 0 r → Corrects s marks received received r
+    found-clean r z g =
+        corrects-found received r (ch .size) (g .found) (g .figures ∙ rw (errors-self marks received, bits-self received, ← ef))
+        (is-near s marks received received (record { code = clean s marks received ch S syn (allZero-at _ _ S z); bound = omega (arith, errors-self marks received) }))
+
+    module _ (out rest : List ℕ) (rep : Steps s marks f S received out rest) where
+      abbrev t : ℕ
+      t = (s .r - f) / 2
+
+      lo : marked marks received + 2 * t ≤ s .r
+      lo = omega arith
+
+      hi : s .r ≤ suc (marked marks received + 2 * t)
+      hi = omega arith
+
+      -- whatever qualifies is the word that was made
+      made : (c : List ℕ) → T (qualifies s marks received c) → out ≡ c
+      made c q =
+          solved s marks received ch t lo hi S (rep .peeled) (rep .vector) (rep .flags) out rest syn (rep .is-peeled) (rep .is-kernel) (rep .are-candidates) (rep .are-corrected) c (near s marks received c q)
+
+      -- what is left does not vanish
+      pub lost-left : (r : Correction) → allZero (s .m) (s .r) rest ≡ false → r .found ≡ false → Corrects s marks received out r
+      lost-left r z g = corrects-none out r (rep .are-corrected .size) g λ c q.
+          different (sym (allZero-yes (s .m) (s .r) rest
+          (left-zero s marks received ch t lo hi S (rep .peeled) (rep .vector) (rep .flags) out rest syn (rep .is-peeled) (rep .is-kernel) (rep .are-candidates) (rep .are-corrected)
+          (subst (Codeword s) (sym (made c q)) (near s marks received c q .code)))) ∙ z)
+
+      -- too many wrong symbols
+      pub lost-far : (r : Correction) (e : ℕ) → e ≡ errors marks received out → s .r < 2 * e + f → r .found ≡ false → Corrects s marks received out r
+      lost-far r e ee l g = corrects-none out r (rep .are-corrected .size) g λ c q.
+          let bound : 2 * errors marks received out + marked marks received ≤ s .r = rw (made c q) (near s marks received c q .bound) in
+          omega arith
+
+      pub found-corrected : (r : Correction) (e : ℕ) → e ≡ errors marks received out → 2 * e + f ≤ s .r → allZero (s .m) (s .r) rest ≡ true
+          → (b : ℕ) → b ≡ bits received out → FoundWith e f b r → Corrects s marks received out r
+      found-corrected r e ee l z b eb g =
+          corrects-found out r (rep .are-corrected .size) (g .found) (g .figures ∙ rw (ee, ef, eb))
+          (is-near s marks received out (record {
+            code = made-codeword s marks received ch t lo hi S (rep .peeled) (rep .vector) (rep .flags) out rest syn (rep .is-peeled) (rep .is-kernel) (rep .are-candidates) (rep .are-corrected) (allZero-at _ _ rest z);
+            bound = omega arith;
+          }))
+
+-- ---- the word in a longer buffer
+
+pub corrects-front : (s : Setting) (marks received out rest : List ℕ) (r : Correction) → Corrects s marks received out r → Corrects s marks received (take (s .n) (out ++ rest)) r
+corrects-front s marks received out rest r h = subst (λ (w : List ℕ). Corrects s marks received w r) (sym (ap (λ (k : ℕ). take k (out ++ rest)) (sym (h .size)) ∙ take-append-seam out rest)) h
+
+-- ---- a copy that fills its target
+
+pub copied : (out received copy : List ℕ) (n : ℕ) → length out ≡ n → length received ≡ n → copy ≡ take (length out) received → copy ≡ received
+copied out received copy n e f h = h ∙ ap (λ (k : ℕ). take k received) (e ∙ sym f) ∙ take-length received
+
+-- the message is the front of the word
+pub message-front : (n r : ℕ) (xs : List ℕ) → take (n - r) (take n xs) ≡ take (n - r) xs
+message-front n r xs = take-take (n - r) n xs (omega arith)
+
+-- ---- the answer
+
+-- what a received word is answered, whose checks gave this number; an accepted word's correction is at the front of the work space, and goes
+-- where `decode` or `decode_part` places it
+pub record Answered (s : Setting) (number : ℕ) (received marks work : List ℕ) (d : Decoded) : Type 0 where
+  pub size : length work ≡ 255
+  pub refused : numberOf d ≢ 0 → (place : List ℕ → List ℕ) (lent : List ℕ) → decodeOutcome d lent ≡ answering s received marks number place lent
+  pub checked : numberOf d ≡ 0 → 0 ≡ number
+  pub done : numberOf d ≡ 0 → (place : List ℕ → List ℕ) (lent : List ℕ) → decodeOutcome d (place (take (s .n) work)) ≡ answering s received marks number place lent
+
+module _ (s : Setting) (number : ℕ) (received marks work : List ℕ) (n : length work ≡ 255) where
+  pub answered-refused : (d : Decoded) → 0 < number → Refuses number d → Answered s number received marks work d
+  answered-refused d h r = record {
+    size = n;
+    refused = λ _ place lent. answering-refused s received marks place lent number number d refl h r;
+    checked = λ z. absurd (omega (arith, r .number));
+    done = λ z place lent. absurd (omega (arith, r .number));
+  }
+
+  module _ (z : 0 ≡ number) where
+    pub answered-none : corrected s marks received ≡ none → Answered s number received marks work BeyondReach
+    answered-none g = record {
+      size = n;
+      refused = λ _ place lent. answering-none s received marks place lent number z g;
+      checked = λ e. absurd (omega arith);
+      done = λ e place lent. absurd (omega arith);
+    }
+
+    pub answered-found : (f : Figures) → corrected s marks received ≡ some (take (s .n) work) → f ≡ figures marks received (take (s .n) work)
+        → Answered s number received marks work (Done f)
+    answered-found f g h = record {
+      size = n;
+      refused = λ ne. absurd (ne refl);
+      checked = λ _. z;
+      done = λ _ place lent. answering-found s received marks place lent number z (take (s .n) work) f g h;
+    }
