@@ -8,15 +8,14 @@ use Prim.Native.Nat.{ℕ, _+_, _-_, _*_, _/_, _%_}
 use lib.ListN.{length, take, drop, replicate}
 use lib.Dec.{leb, ltb, eqb}
 use Rattle.algebra.specs.Tests.{if_then_else_, at, each, below, firstBelow}
-use Rattle.algebra.specs.Lists.{tabulate}
+use Rattle.algebra.specs.Lists.{tabulate, joined, part}
 use Rattle.word.specs.Setting.{allowed, messageSize}
 use Rattle.word.specs.Code.{encoded, corrected}
-use Rattle.word.specs.Answers.{noFigures, figures}
+use Rattle.word.specs.Answers.{noFigures, figures, unless}
 use Rattle.word.specs.declared.Setting.{Setting}
 use Rattle.word.specs.declared.Figures.{Figures}
 use Rattle.interleave.specs.Block.{spread}
-use Rattle.frame.specs.Lists.{joined, part}
-use Rattle.frame.specs.Slots.{wordIn}
+use Rattle.interleave.specs.Slots.{wordIn}
 use Rattle.frame.specs.declared.setting.Framing.{Framing}
 use Rattle.frame.specs.declared.setting.Sent.{Sent}
 use Rattle.frame.specs.declared.setting.Sent.the-variants as S
@@ -99,13 +98,22 @@ sentNumber S.LongPayload = 6
 abbrev pub sendOutcome : Sent → List ℕ → SendOutcome
 sendOutcome d slots = record { number = sentNumber d; slots = slots }
 
--- checked in the order 1, 2, 6; a refusal leaves the slots
-unfoldable pub sent : Framing → List ℕ → ℕ → List ℕ → SendOutcome
-sent f payload sequence slots =
-    if not (allowedFrame f) then record { number = 1; slots = slots } else
-    if not (eqb (length slots) (slotCount f)) then record { number = 2; slots = slots } else
-    if not (leb (length payload) (areaSize f - 4)) then record { number = 6; slots = slots } else
-    record { number = 0; slots = slotsSent f payload sequence }
+-- the answer that has this number
+abbrev pub sentAs : ℕ → Sent
+sentAs k = if eqb k 0 then S.Done else if eqb k 1 then S.BadSetting else if eqb k 2 then S.BadLength else S.LongPayload
+
+-- checked in the order 1, 2, 6; 0 where all are passed
+unfoldable pub sendRefusal : Framing → (payload slots : List ℕ) → ℕ
+sendRefusal f payload slots =
+    if not (allowedFrame f) then 1 else
+    if not (eqb (length slots) (slotCount f)) then 2 else
+    if not (leb (length payload) (areaSize f - 4)) then 6 else
+    0
+
+-- a refusal leaves the slots
+unfoldable pub sending : Framing → (payload : List ℕ) (sequence : ℕ) (slots : List ℕ) → SendOutcome
+sending f payload sequence slots =
+    unless (sendRefusal f payload slots) (λ k. record { number = k; slots = slots }) (record { number = 0; slots = slotsSent f payload sequence })
 
 -- ---- receiving
 
@@ -113,7 +121,7 @@ abbrev pub isNone : Option (List ℕ) → Bool
 isNone none = true
 isNone (some c) = false
 
-module _ (f : Framing) (marks slots : List ℕ) where
+module _ (f : Framing) (slots marks : List ℕ) where
   -- word w as received, its marks, and what it is corrected to
   abbrev pub receivedWord : ℕ → List ℕ
   receivedWord w = wordIn (f .depth) (f .n) slots w
@@ -174,18 +182,22 @@ settled A figures area =
     }
 
 -- a frame that passes the checks: 4 where a word is beyond reach
-unfoldable pub decodedFrame : Framing → List ℕ → List ℕ → ReceiveOutcome
-decodedFrame f marks slots =
-    if ltb (beyond f marks slots) (f .depth) then refusedFrame 4 (beyond f marks slots) (replicate (areaSize f) 0) else
-    settled (areaSize f) (figuresReceived f marks slots) (areaReceived f marks slots)
+unfoldable pub decodedFrame : Framing → (slots marks : List ℕ) → ReceiveOutcome
+decodedFrame f slots marks =
+    if ltb (beyond f slots marks) (f .depth) then refusedFrame 4 (beyond f slots marks) (replicate (areaSize f) 0) else
+    settled (areaSize f) (figuresReceived f slots marks) (areaReceived f slots marks)
 
--- checked in the order 1, 2, 3, 4, 5
-unfoldable pub received : Framing → List ℕ → List ℕ → List ℕ → ReceiveOutcome
-received f marks slots area =
-    if not (allowedFrame f) then refusedFrame 1 0 area else
-    if not (eqb (length slots) (slotCount f) && eqb (length marks) (slotCount f) && eqb (length area) (areaSize f)) then refusedFrame 2 0 area else
-    if not (below 2 marks) then refusedFrame 3 0 area else
-    decodedFrame f marks slots
+-- checked in the order 1, 2, 3; 0 where all are passed
+unfoldable pub receiveRefusal : Framing → (slots marks area : List ℕ) → ℕ
+receiveRefusal f slots marks area =
+    if not (allowedFrame f) then 1 else
+    if not (eqb (length slots) (slotCount f) && eqb (length marks) (slotCount f) && eqb (length area) (areaSize f)) then 2 else
+    if not (below 2 marks) then 3 else
+    0
+
+-- these refusals leave the area
+unfoldable pub receiving : Framing → (slots marks area : List ℕ) → ReceiveOutcome
+receiving f slots marks area = unless (receiveRefusal f slots marks area) (λ k. refusedFrame k 0 area) (decodedFrame f slots marks)
 
 -- ---- the code's answer in this paper's terms
 
@@ -214,21 +226,24 @@ isDone BadMark = false
 isDone (BeyondReach w) = false
 isDone BadTrailer = false
 
+-- the verdict that has these numbers
+abbrev pub verdictAs : (number word : ℕ) → Verdict
+verdictAs k w =
+    if eqb k 0 then Done else if eqb k 1 then BadSetting else if eqb k 2 then BadLength else if eqb k 3 then BadMark else
+    if eqb k 4 then BeyondReach w else BadTrailer
+
 -- a refusal has no numbers beside the verdict's own
-abbrev pub refusedWith : Verdict → Received
-refusedWith v = record { verdict = v; sequence = 0; back = 0; figures = replicate 16 noFigures }
+abbrev pub refusedWith : (number word : ℕ) → Received
+refusedWith k w = record { verdict = verdictAs k w; sequence = 0; back = 0; figures = replicate 16 noFigures }
 
 -- the part of the area that an answer hands back
 unfoldable pub payloadOf : Received → List ℕ → List ℕ
 payloadOf r area = if isDone (r .verdict) then payloadIn (r .back) area else []
 
-abbrev pub receiveOutcome : Received → List ℕ → List ℕ → ReceiveOutcome
-receiveOutcome r area payload =
-    record { number = numberOf (r .verdict); word = wordNumber (r .verdict); sequence = r .sequence; back = r .back; figures = r .figures; area = area; payload = payload }
-
 -- an answer with what it leaves in the area
-abbrev pub answered : Received → List ℕ → ReceiveOutcome
-answered r area = receiveOutcome r area (payloadOf r area)
+abbrev pub receiveOutcome : Received → List ℕ → ReceiveOutcome
+receiveOutcome r area =
+    record { number = numberOf (r .verdict); word = wordNumber (r .verdict); sequence = r .sequence; back = r .back; figures = r .figures; area = area; payload = payloadOf r area }
 
 -- the whole area and the payload, as one call hands both back
 abbrev pub handedBack : ReceiveOutcome → List (List ℕ)

@@ -9,7 +9,7 @@ use lib.Dec.{T}
 use lib.ListN.{replicate}
 use Rattle.algebra.specs.Xor.{_⊕_}
 use Rattle.algebra.specs.Tests.{total, each, below, firstBelow}
-use Rattle.algebra.specs.Lists.{tabulate}
+use Rattle.algebra.specs.Lists.{tabulate, joined}
 use Rattle.field.specs.Field.{times, reduce, product, power}
 use Rattle.field.specs.Answers.{isField}
 use Rattle.word.specs.Setting.{allowed}
@@ -17,13 +17,11 @@ use Rattle.word.specs.Word.{valueFrom, errorOf, errors, marked, bits}
 use Rattle.word.specs.Codeword.{isCodeword, qualifies}
 use Rattle.word.specs.Code.{encoded}
 use Rattle.word.specs.Code.Laws.{corrected-only, encoded-only}
-use Rattle.word.specs.Answers.{noFigures}
+use Rattle.word.specs.Answers.{noFigures, unless}
 use Rattle.word.specs.declared.Setting.{Setting}
 use Rattle.word.specs.declared.Figures.{Figures}
-use Rattle.interleave.specs.Block.{transposed}
-use Rattle.frame.specs.Lists.{joined}
-use Rattle.frame.specs.Slots.{wordIn}
-use Rattle.frame.specs.Frame.{allowedFrame, areaSent, wordSent, slotsSent, sent, correctedWord, messageOf, figuresAt, beyond, areaReceived, figuresReceived, zerosBefore, trailerGood, payloadIn, settled, decodedFrame, received}
+use Rattle.interleave.specs.Slots.{spread-rule, word-rule}
+use Rattle.frame.specs.Frame.{allowedFrame, areaSent, wordSent, slotsSent, sendRefusal, sending, correctedWord, messageOf, figuresAt, beyond, areaReceived, figuresReceived, zerosBefore, trailerGood, payloadIn, settled, decodedFrame, receiveRefusal, receiving}
 use Rattle.frame.specs.declared.setting.Framing.{Framing}
 
 -- J = 2, n = 5, r = 2, b = 0
@@ -50,9 +48,9 @@ encoded-1 = encoded-only five allowed-five (0 ∷ 2 ∷ 1 ∷ []) refl (13 ∷ 1
 abbrev pub slotsOut : List ℕ
 slotsOut = 0 ∷ 0 ∷ 65 ∷ 2 ∷ 1 ∷ 1 ∷ 217 ∷ 13 ∷ 153 ∷ 14 ∷ []
 
-pub sent-example : sent example (65 ∷ []) 258 (replicate 10 0) ≡ record { number = 0; slots = slotsOut }
-unfolding sent allowedFrame allowed isField slotsSent wordSent areaSent joined transposed tabulate
-sent-example = rw (encoded-0, encoded-1)
+pub sent-example : sending example (65 ∷ []) 258 (replicate 10 0) ≡ record { number = 0; slots = slotsOut }
+unfolding sending unless sendRefusal allowedFrame allowed isField slotsSent wordSent areaSent joined tabulate
+sent-example = rw (encoded-0, encoded-1, spread-rule)
 
 -- ---- received: slots 2 and 3 were 65 and 2
 
@@ -62,27 +60,27 @@ slotsIn = 0 ∷ 0 ∷ 0 ∷ 0 ∷ 1 ∷ 1 ∷ 217 ∷ 13 ∷ 153 ∷ 14 ∷ []
 abbrev figures : ℕ → ℕ → ℕ → Figures
 figures e f k = record { errors = e; marked = f; bits = k }
 
-corrected-0 : correctedWord example (replicate 10 0) slotsIn 0 ≡ some (0 ∷ 65 ∷ 1 ∷ 217 ∷ 153 ∷ [])
-unfolding correctedWord wordIn tabulate below qualifies isCodeword each valueFrom errorOf errors marked total _⊕_ times reduce product power
-corrected-0 = corrected-only five allowed-five (replicate 5 0) (0 ∷ 0 ∷ 1 ∷ 217 ∷ 153 ∷ []) refl (0 ∷ 65 ∷ 1 ∷ 217 ∷ 153 ∷ []) tt
+corrected-0 : correctedWord example slotsIn (replicate 10 0) 0 ≡ some (0 ∷ 65 ∷ 1 ∷ 217 ∷ 153 ∷ [])
+unfolding correctedWord tabulate below qualifies isCodeword each valueFrom errorOf errors marked total _⊕_ times reduce product power
+corrected-0 = simp word-rule (corrected-only five allowed-five (replicate 5 0) (0 ∷ 0 ∷ 1 ∷ 217 ∷ 153 ∷ []) refl (0 ∷ 65 ∷ 1 ∷ 217 ∷ 153 ∷ []) tt)
 
-corrected-1 : correctedWord example (replicate 10 0) slotsIn 1 ≡ some (0 ∷ 2 ∷ 1 ∷ 13 ∷ 14 ∷ [])
-unfolding correctedWord wordIn tabulate below qualifies isCodeword each valueFrom errorOf errors marked total _⊕_ times reduce product power
-corrected-1 = corrected-only five allowed-five (replicate 5 0) (0 ∷ 0 ∷ 1 ∷ 13 ∷ 14 ∷ []) refl (0 ∷ 2 ∷ 1 ∷ 13 ∷ 14 ∷ []) tt
+corrected-1 : correctedWord example slotsIn (replicate 10 0) 1 ≡ some (0 ∷ 2 ∷ 1 ∷ 13 ∷ 14 ∷ [])
+unfolding correctedWord tabulate below qualifies isCodeword each valueFrom errorOf errors marked total _⊕_ times reduce product power
+corrected-1 = simp word-rule (corrected-only five allowed-five (replicate 5 0) (0 ∷ 0 ∷ 1 ∷ 13 ∷ 14 ∷ []) refl (0 ∷ 2 ∷ 1 ∷ 13 ∷ 14 ∷ []) tt)
 
-within-reach : beyond example (replicate 10 0) slotsIn ≡ 2
+within-reach : beyond example slotsIn (replicate 10 0) ≡ 2
 unfolding beyond firstBelow
 within-reach = rw (corrected-0, corrected-1)
 
-area : areaReceived example (replicate 10 0) slotsIn ≡ 0 ∷ 65 ∷ 1 ∷ 0 ∷ 2 ∷ 1 ∷ []
+area : areaReceived example slotsIn (replicate 10 0) ≡ 0 ∷ 65 ∷ 1 ∷ 0 ∷ 2 ∷ 1 ∷ []
 unfolding areaReceived joined messageOf
 area = rw (corrected-0, corrected-1)
 
-found : figuresReceived example (replicate 10 0) slotsIn ≡ figures 1 0 2 ∷ figures 1 0 1 ∷ replicate 14 noFigures
-unfolding figuresReceived figuresAt wordIn tabulate errorOf errors marked bits total ones onesIn _⊕_
-found = rw (corrected-0, corrected-1)
+found : figuresReceived example slotsIn (replicate 10 0) ≡ figures 1 0 2 ∷ figures 1 0 1 ∷ replicate 14 noFigures
+unfolding figuresReceived figuresAt tabulate errorOf errors marked bits total ones onesIn _⊕_
+found = simp (corrected-0, corrected-1, word-rule)
 
-pub received-example : received example (replicate 10 0) slotsIn (replicate 6 0) ≡ record {
+pub received-example : receiving example slotsIn (replicate 10 0) (replicate 6 0) ≡ record {
   number = 0;
   word = 0;
   sequence = 258;
@@ -91,5 +89,5 @@ pub received-example : received example (replicate 10 0) slotsIn (replicate 6 0)
   area = 0 ∷ 65 ∷ 1 ∷ 0 ∷ 2 ∷ 1 ∷ [];
   payload = 65 ∷ [];
 }
-unfolding received decodedFrame allowedFrame allowed isField below settled trailerGood zerosBefore each payloadIn
+unfolding receiving unless receiveRefusal decodedFrame allowedFrame allowed isField below settled trailerGood zerosBefore each payloadIn
 received-example = rw (within-reach, area, found)

@@ -1,6 +1,6 @@
-pub mod Lists
-pub mod Slots
 pub mod Frame
+pub mod Promises
+pub mod Checks
 pub mod Sending
 pub mod Decoding
 pub mod Receiving

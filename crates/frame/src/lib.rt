@@ -1,11 +1,10 @@
 // A frame: document 01, section Block interleaver and frame. A payload and its sequence number are sent as one frame of interleaved words; a
-// received frame is decoded into a lent message area, which then holds the payload. What sending and receiving promise, and what the message
-// area holds, is defined in specs/, in the paper's order.
+// received frame is decoded into a lent message area, which then holds the payload. What a frame is stands in specs/Frame.antt, in the paper's
+// order, and what each call promises in specs/Promises.antt.
 pub mod numbers;
 mod receiver;
 mod sender;
 pub mod setting;
-pub mod slots;
 mod trailer;
 
 pub use receiver::receive;

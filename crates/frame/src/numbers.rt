@@ -1,6 +1,6 @@
-// Document 01, section Numbers a call can answer: the paper's numbers of what sending and receiving answer.
+// Document 01, section Numbers a call can answer: the paper's numbers of what sending and receiving answer, and the answers of its numbers.
 ghost use mathlib.Core.Path.{_≡_};
-ghost use Rattle.frame.specs.Frame.{sentNumber, numberOf, wordNumber};
+ghost use Rattle.frame.specs.Frame.{sentNumber, sentAs, numberOf, wordNumber, verdictAs};
 use crate::setting::Sent;
 use crate::setting::Verdict;
 
@@ -42,4 +42,42 @@ pub fn word_number(verdict: Verdict) -> u8
         Verdict::BeyondReach(w) => w,
         Verdict::BadTrailer => 0,
     }
+}
+
+// The answer of sending that has this number.
+pub fn sent_as(number: u8) -> Sent
+    ensures { λ d. ⌜ d ≡ sentAs number ⌝ }
+{
+    if number == 0 {
+        return Sent::Done;
+    }
+    if number == 1 {
+        return Sent::BadSetting;
+    }
+    if number == 2 {
+        return Sent::BadLength;
+    }
+    Sent::LongPayload
+}
+
+// The verdict that has this number, and names this word where it is 4.
+pub fn verdict_as(number: u8, word: u8) -> Verdict
+    ensures { λ v. ⌜ v ≡ verdictAs number word ⌝ }
+{
+    if number == 0 {
+        return Verdict::Done;
+    }
+    if number == 1 {
+        return Verdict::BadSetting;
+    }
+    if number == 2 {
+        return Verdict::BadLength;
+    }
+    if number == 3 {
+        return Verdict::BadMark;
+    }
+    if number == 4 {
+        return Verdict::BeyondReach(word);
+    }
+    Verdict::BadTrailer
 }

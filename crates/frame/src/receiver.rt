@@ -1,20 +1,23 @@
 // Receiving a frame: document 01, section Block interleaver and frame. Its words are decoded into a lent message area, which then holds the
-// payload. What receiving promises is `received` of frame/specs/Frame.antt.
+// payload.
 ghost use mathlib.Core.Path.{_≡_};
 ghost use Prim.Native.Nat.{_≤_};
 ghost use lib.ListN.{length};
-ghost use Rattle.frame.specs.Frame.{answered, refusedWith, settled, decodedFrame, received};
-ghost use Rattle.frame.specs.Decoding.{foundOf, Decodes, WordGiven, FrameChecked, Collected};
+ghost use Rattle.frame.specs.Frame.{receiveOutcome, refusedWith, settled, decodedFrame, receiveRefusal};
+ghost use Rattle.frame.specs.Promises.{Receives};
+ghost use Rattle.frame.specs.Checks.{ReceiveChecked};
+ghost use Rattle.frame.specs.Decoding.{foundOf, WordGiven, WordFound, Collected};
+use crate::numbers::verdict_as;
 use crate::setting::Framing;
 use crate::setting::Received;
 use crate::setting::Verdict;
 use crate::setting::is_allowed;
 use crate::setting::words_of;
-use crate::slots::take_word;
 use crate::trailer::is_good;
 use crate::trailer::two_at;
 use buffers::all_below;
 use buffers::fill;
+use interleave::slots::take_word;
 use word::Decoded;
 use word::Figures;
 use word::numbers::figures_of;
@@ -45,8 +48,8 @@ fn without_reason(d: Decoded) -> Found
 
 // Decodes word w into its part of the area.
 fn receive_word(f: Framing, w: usize, slots: &[u8], marks: &[u8], part: &mut [u8]) -> Found
-    requires { ⌜ WordGiven f w (now slots) (now marks) (length (now part)) ⌝ }
-    ensures { λ r. ⌜ Decodes f (now (marks .entry)) (now (slots .entry)) w r (now (part .exit)) ⌝ }
+    requires { ⌜ WordGiven f w (now slots) (now marks) (now part) ⌝ }
+    ensures { λ r. ⌜ WordFound f w (now (slots .entry)) (now (marks .entry)) r (now (part .exit)) ⌝ }
 {
     let word = take_word(f.depth, f.n, w, slots);
     let marked = take_word(f.depth, f.n, w, marks);
@@ -56,8 +59,8 @@ fn receive_word(f: Framing, w: usize, slots: &[u8], marks: &[u8], part: &mut [u8
 
 // Decodes each word into its part of the area, up to the first that is refused.
 fn receive_words(f: Framing, slots: &[u8], marks: &[u8], area: &mut [u8]) -> Words
-    requires { ⌜ FrameChecked f (now slots) (now marks) (length (now area)) ⌝ }
-    ensures { λ r. ⌜ Collected f (now (marks .entry)) (now (slots .entry)) r (now (area .exit)) ⌝ }
+    requires { ⌜ ReceiveChecked f (now slots) (now marks) (now area) ⌝ }
+    ensures { λ r. ⌜ Collected f (now (slots .entry)) (now (marks .entry)) r (now (area .exit)) ⌝ }
 {
     let k = f.n - f.r;
     let mut figures = [no_figures(); 16];
@@ -79,13 +82,13 @@ fn receive_words(f: Framing, slots: &[u8], marks: &[u8], area: &mut [u8]) -> Wor
     }
 }
 
-// The answer of a refused frame.
-fn refused(verdict: Verdict) -> Received
-    ensures { λ r. ⌜ r ≡ refusedWith verdict ⌝ }
+// The answer of a frame that is refused with this number, and this word where it is 4.
+fn refused(number: u8, word: u8) -> Received
+    ensures { λ r. ⌜ r ≡ refusedWith number word ⌝ }
 {
     let figures = [no_figures(); 16];
     Received {
-        verdict,
+        verdict: verdict_as(number, word),
         sequence: 0,
         back: 0,
         figures,
@@ -95,11 +98,11 @@ fn refused(verdict: Verdict) -> Received
 // The answer of a frame whose words are all accepted: what its trailer says.
 fn settle(area: &mut [u8], figures: [Figures; 16]) -> Received
     requires { ⌜ 4 ≤ length (now area) ⌝ }
-    ensures { λ r. ⌜ answered r (now (area .exit)) ≡ settled (length (now (area .entry))) figures (now (area .entry)) ⌝ }
+    ensures { λ r. ⌜ receiveOutcome r (now (area .exit)) ≡ settled (length (now (area .entry))) figures (now (area .entry)) ⌝ }
 {
     if !is_good(area) {
         fill(area, 0);
-        return refused(Verdict::BadTrailer);
+        return refused(5, 0);
     }
     let end = area.len() - 4;
     Received {
@@ -112,37 +115,48 @@ fn settle(area: &mut [u8], figures: [Figures; 16]) -> Received
 
 // Decodes a frame that has passed the checks.
 fn receive_checked(f: Framing, slots: &[u8], marks: &[u8], area: &mut [u8]) -> Received
-    requires { ⌜ FrameChecked f (now slots) (now marks) (length (now area)) ⌝ }
-    ensures { λ r. ⌜ answered r (now (area .exit)) ≡ decodedFrame f (now (marks .entry)) (now (slots .entry)) ⌝ }
+    requires { ⌜ ReceiveChecked f (now slots) (now marks) (now area) ⌝ }
+    ensures { λ r. ⌜ receiveOutcome r (now (area .exit)) ≡ decodedFrame f (now (slots .entry)) (now (marks .entry)) ⌝ }
 {
     let words = receive_words(f, slots, marks, area);
     if words.accepted < f.depth {
         fill(area, 0);
-        return refused(Verdict::BeyondReach(words.accepted as u8));
+        return refused(4, words.accepted as u8);
     }
     let figures = words.figures;
     settle(area, figures)
 }
 
+// The number by which a frame is refused before it is decoded, or 0. The setting comes first: within its limits the lengths fit.
+fn receive_refusal(f: Framing, slots: &[u8], marks: &[u8], area: &[u8]) -> u8
+    ensures { λ r. ⌜ r ≡ receiveRefusal f (now (slots .entry)) (now (marks .entry)) (now (area .entry)) ⌝ }
+{
+    if !is_allowed(f) {
+        return 1;
+    }
+    if slots.len() != f.n * f.depth {
+        return 2;
+    }
+    if marks.len() != f.n * f.depth {
+        return 2;
+    }
+    if area.len() != f.depth * (f.n - f.r) {
+        return 2;
+    }
+    if !all_below(marks, 2) {
+        return 3;
+    }
+    0
+}
+
 // Decodes a received frame into the lent area of A bytes; its slots and marks are only read. A frame that is beyond reach or has a bad
 // trailer leaves zeros in the area, and any other refusal leaves it as it was.
 pub fn receive(f: Framing, slots: &[u8], marks: &[u8], area: &mut [u8]) -> Received
-    ensures { λ r. ⌜ answered r (now (area .exit)) ≡ received f (now (marks .entry)) (now (slots .entry)) (now (area .entry)) ⌝ }
+    ensures { λ r. ⌜ Receives f (now (slots .entry)) (now (marks .entry)) (now (area .entry)) r (now (area .exit)) ⌝ }
 {
-    if !is_allowed(f) {
-        return refused(Verdict::BadSetting);
-    }
-    if slots.len() != f.n * f.depth {
-        return refused(Verdict::BadLength);
-    }
-    if marks.len() != f.n * f.depth {
-        return refused(Verdict::BadLength);
-    }
-    if area.len() != f.depth * (f.n - f.r) {
-        return refused(Verdict::BadLength);
-    }
-    if !all_below(marks, 2) {
-        return refused(Verdict::BadMark);
+    let number = receive_refusal(f, slots, marks, area);
+    if number != 0 {
+        return refused(number, 0);
     }
     receive_checked(f, slots, marks, area)
 }

@@ -1,16 +1,33 @@
 // Sending a frame: document 01, section Block interleaver and frame. A payload and its sequence number become one frame of interleaved
-// words. What sending promises is `sent` of frame/specs/Frame.antt.
+// words.
 ghost use mathlib.Core.Path.{_≡_};
-ghost use lib.ListN.{length};
-ghost use Rattle.frame.specs.Frame.{slotsSent, sent, sendOutcome};
-ghost use Rattle.frame.specs.Sending.{Sends};
+ghost use Rattle.frame.specs.Frame.{sendRefusal, slotsSent};
+ghost use Rattle.frame.specs.Promises.{Sends};
+ghost use Rattle.frame.specs.Sending.{SendGiven};
+use crate::numbers::sent_as;
 use crate::setting::Framing;
 use crate::setting::Sent;
 use crate::setting::is_allowed;
 use crate::setting::words_of;
-use crate::slots::put_word;
-use crate::slots::work_space;
 use crate::trailer::fill_message;
+use buffers::work_space;
+use interleave::slots::put_word;
+
+// The number by which sending is refused, or 0. The setting comes first: within its limits the area's size fits.
+fn send_refusal(f: Framing, payload: &[u8], slots: &[u8]) -> u8
+    ensures { λ r. ⌜ r ≡ sendRefusal f (now (payload .entry)) (now (slots .entry)) ⌝ }
+{
+    if !is_allowed(f) {
+        return 1;
+    }
+    if slots.len() != f.n * f.depth {
+        return 2;
+    }
+    if f.depth * (f.n - f.r) - 4 < payload.len() {
+        return 6;
+    }
+    0
+}
 
 // Encodes each word's part of the area, and puts it into its slots. The two buffers are work space for a message and its word.
 fn send_words(
@@ -21,7 +38,7 @@ fn send_words(
     word: &mut [u8],
     slots: &mut [u8],
 )
-    requires { ⌜ Sends f (length (now payload)) (length (now message)) (length (now word)) (length (now slots)) ⌝ }
+    requires { ⌜ SendGiven f (now payload) (now message) (now word) (now slots) ⌝ }
     ensures { λ _. ⌜ now (slots .exit) ≡ slotsSent f (now (payload .entry)) sequence ⌝ }
 {
     let k = f.n - f.r;
@@ -37,20 +54,15 @@ fn send_words(
 // Sends a payload of at most A - 4 bytes with its sequence number: fills the slots, of which there are n * depth.
 // Any refusal leaves the slots as they were.
 pub fn send(f: Framing, payload: &[u8], sequence: u16, slots: &mut [u8]) -> Sent
-    ensures { λ d. ⌜ sendOutcome d (now (slots .exit)) ≡ sent f (now (payload .entry)) sequence (now (slots .entry)) ⌝ }
+    ensures { λ d. ⌜ Sends f (now (payload .entry)) sequence (now (slots .entry)) d (now (slots .exit)) ⌝ }
 {
-    if !is_allowed(f) {
-        return Sent::BadSetting;
-    }
-    if slots.len() != f.n * f.depth {
-        return Sent::BadLength;
-    }
-    let k = f.n - f.r;
-    if f.depth * k - 4 < payload.len() {
-        return Sent::LongPayload;
+    let number = send_refusal(f, payload, slots);
+    if number != 0 {
+        return sent_as(number);
     }
     let mut message = work_space();
     let mut word = work_space();
+    let k = f.n - f.r;
     send_words(
         f,
         payload,

@@ -1,11 +1,12 @@
 // The message area and its trailer: document 01, section Block interleaver and frame. Zeros, the payload, and in the last four bytes how far
-// back it goes and the sequence number. What each call promises is defined in specs/ of `frame`, with the rest of a frame.
+// back it goes and the sequence number.
 ghost use mathlib.Core.Path.{_≡_};
 ghost use Prim.Native.Nat.{_+_, _<_, _≤_};
 ghost use lib.ListN.{length};
 ghost use Rattle.algebra.specs.Tests.{at};
-ghost use Rattle.frame.specs.Slots.{Copied};
-ghost use Rattle.frame.specs.Frame.{trailer, twoAt, areaByte, areaSent, zerosBefore, trailerGood, isDone, payloadOf};
+ghost use Rattle.algebra.specs.Lists.{Copied};
+ghost use Rattle.frame.specs.Frame.{trailer, twoAt, areaByte, areaSent, zerosBefore, trailerGood, isDone};
+ghost use Rattle.frame.specs.Promises.{HandsBack};
 use crate::setting::Received;
 use crate::setting::Verdict;
 
@@ -107,7 +108,7 @@ fn is_done(verdict: Verdict) -> bool
 // The payload of an accepted frame, as that part of the area itself: the `back` bytes that end four before its end. The part is empty
 // where the frame was refused, and where an area has not so many bytes.
 pub fn payload<'a>(area: &'a [u8], answer: Received) -> &'a [u8]
-    ensures { λ p. ⌜ now p ≡ payloadOf answer (now (area .entry)) ⌝ }
+    ensures { λ p. ⌜ HandsBack (now (area .entry)) answer (now p) ⌝ }
 {
     let verdict = answer.verdict;
     if !is_done(verdict) {

@@ -84,6 +84,11 @@ module _ (J n : ℕ) (slots : List ℕ) (w : ℕ) where
         bytes = rw (take-at t (drop n old) n size) (c .small);
       }
 
+-- the whole block, slot by slot
+pub spread-rule : (J n : ℕ) (words : List ℕ) → spread J n words ≡ tabulate (n * J) (λ s. at words (s % J * n + s / J))
+unfolding transposed
+spread-rule J n words = refl
+
 -- a word that was interleaved is taken again
 pub word-back : (J n : ℕ) (f : ℕ → List ℕ) → ((w : ℕ) → w < J → length (f w) ≡ n) → (w : ℕ) → w < J → wordIn J n (spread J n (joined J f)) w ≡ f w
 word-back J n f h w k =
@@ -134,7 +139,6 @@ module _ (J n : ℕ) (f : ℕ → List ℕ) (w : ℕ) where
 
   -- all of them are the whole block, interleaved
   pub putting-all : (slots : List ℕ) → J ≤ w → 0 < J → Putting J n f w slots → slots ≡ spread J n (joined J f)
-  unfolding transposed
-  putting-all slots h j p = tabulated slots (n * J) (λ t. at (joined J f) (t % J * n + t / J)) 0 (p .size) λ t u.
+  putting-all slots h j p = rw spread-rule (tabulated slots (n * J) (λ t. at (joined J f) (t % J * n + t / J)) 0 (p .size) λ t u.
       let m : t % J < J = mod-lt t j in
-      p .done t (omega arith) u ∙ sym (joined-at n f J (λ i l. p .sizes i (omega arith)) (t % J) (t / J) m (div-lt-iff-lt-mul j .1 u))
+      p .done t (omega arith) u ∙ sym (joined-at n f J (λ i l. p .sizes i (omega arith)) (t % J) (t / J) m (div-lt-iff-lt-mul j .1 u)))

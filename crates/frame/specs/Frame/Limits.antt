@@ -44,10 +44,6 @@ module _ (f : Framing) where
   frame-yes a =
       rw (← allowed-yes (wordSetting f) (a .words), le-leb 1 (f .depth) (a .some), le-leb (f .depth) 16 (a .few), le-leb 4 (areaSize f) (a .room))
 
-  -- no second answer meets the promise of `is_allowed`
-  pub frame-allowed-once : (r s : Bool) → r ≡ allowedFrame f → s ≡ allowedFrame f → r ≡ s
-  frame-allowed-once r s p q = cc
-
   pub frame-no : (FrameAllowed f → ⊥) → false ≡ allowedFrame f
   frame-no h = go (allowedFrame f) refl
     where

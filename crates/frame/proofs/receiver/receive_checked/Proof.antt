@@ -15,8 +15,10 @@ receive-words-requires c κs = c .before .before .before .before .pre
 fill-requires : tie.Need-fill-requires
 fill-requires c κs = search needs
 
-cast-t13 : tie.Need-cast-t13
-cast-t13 c = omega (arith, c .before .before .before .before .before .before .before .before .before .before .before .before .before .before .before .pre .limits .few)
+cast-refused : tie.Need-cast-refused
+cast-refused c =
+    let words = c .before .before .before .before .before .before .before .before .before .before in
+    omega (arith, words .before .before .before .before .before .pre .limits .few)
 
 refused-requires : tie.Need-refused-requires
 refused-requires c κs = search needs
@@ -26,13 +28,17 @@ same-length c = search needs
 
 returns : tie.Need-returns
 returns c =
-    let words = c .before .before .before .before .before .before .before .before .before .before .before .receive-words in
-    let size : length (words .last .1 .1 .1 .0) ≡ length (c .before .before .before .before .before .before .before .before .before .before .before .before .before .before .before .before .args .area .now) = search needs in
-    rw (c .refused .ensures, c .before .before .before .before .fill .ensures) (decoded-beyond _ _ _ _ (words .ensures .first) (c .before .before .before .before .before .before .if1 .taken) _ (size ∙ c .before .before .before .before .before .before .before .before .before .before .before .before .before .before .before .before .pre .area-size))
+    let filled = c .before .before .before .before in
+    let lost = filled .before .before in
+    let words = lost .before .before .before .before .before in
+    let start = words .before .before .before .before .before in
+    let size : length (words .receive-words .last .1 .1 .1 .0) ≡ length (start .args .area .now) = search needs in
+    rw (c .refused .ensures, filled .fill .ensures) (decoded-beyond _ _ _ _ (words .receive-words .ensures .first) (lost .if1 .taken) _ (size ∙ start .pre .area-size))
 
 settle-requires : tie.Need-settle-requires
 settle-requires c κs =
-    let given = c .before .before .before .before .before .before .before .before .before .before .before .before .pre in
+    let words = c .before .before .before .before .before .before .before in
+    let given = words .before .before .before .before .before .pre in
     omega (arith, given .limits .room, given .area-size)
 
 same-length-2 : tie.Need-same-length-2
@@ -40,11 +46,15 @@ same-length-2 c = search needs
 
 returns-2 : tie.Need-returns-2
 returns-2 c =
-    let words = c .before .before .before .before .before .before .before .before .before .before .receive-words in
-    let all : words .result .accepted ≡ c .before .before .before .before .before .before .before .before .before .before .before .before .before .before .before .args .f .depth = omega (arith, words .ensures .most, c .before .before .before .before .before .if1 .left) in
-    let size : length (words .last .1 .1 .1 .0) ≡ length (c .before .before .before .before .before .before .before .before .before .before .before .before .before .before .before .args .area .now) = search needs in
-    c .before .before .settle .ensures
-    ∙ decoded-settled _ _ _ (sym (words .ensures .first) ∙ all) _ _ _ (size ∙ c .before .before .before .before .before .before .before .before .before .before .before .before .before .before .before .pre .area-size) (words .ensures .all all .0) (words .ensures .all all .1)
+    let settled = c .before .before in
+    let whole = settled .before .before .before in
+    let words = whole .before .before .before .before .before in
+    let start = words .before .before .before .before .before in
+    let told = words .receive-words .ensures in
+    let all : words .receive-words .result .accepted ≡ start .args .f .depth = omega (arith, told .most, whole .if1 .left) in
+    let size : length (words .receive-words .last .1 .1 .1 .0) ≡ length (start .args .area .now) = search needs in
+    settled .settle .ensures
+    ∙ decoded-settled _ _ _ (sym (told .first) ∙ all) _ _ _ (size ∙ start .pre .area-size) (told .all all .0) (told .all all .1)
 
 pub receive-checked-spec : {M : Type 1} → statement M
-receive-checked-spec = tie.close (tie.spec receive-words-requires fill-requires cast-t13 refused-requires same-length returns settle-requires same-length-2 returns-2)
+receive-checked-spec = tie.close (tie.spec receive-words-requires fill-requires cast-refused refused-requires same-length returns settle-requires same-length-2 returns-2)

@@ -6,7 +6,7 @@ use native.Mathlib.Omega.{arith}
 use borrow.Author.Needs.{needs}
 use lib.ListN.{length}
 use lib.Seq.{length-take-le}
-use Rattle.frame.specs.Decoding.{word-decoded}
+use Rattle.frame.specs.Decoding.{word-found}
 use Rattle.frame.specs.Frame.Limits.{short-word}
 use Rattle.frame.proofs.receiver.receive_word.Statement.{statement}
 use Rattle.frame.proofs.receiver.receive_word.Tie as tie
@@ -14,12 +14,12 @@ use Rattle.frame.proofs.receiver.receive_word.Tie as tie
 take-word-requires : tie.Need-take-word-requires
 take-word-requires c κs =
     let given = c .before .before .before .pre in
-    (given .turn, given .limits .few, omega (arith, short-word _ (given .limits)), given .slots-size)
+    record { turn = given .turn; few = given .limits .few; short = short-word _ (given .limits); size = given .slots-size }
 
 take-word-requires-2 : tie.Need-take-word-requires-2
 take-word-requires-2 c κs =
     let given = c .before .before .before .before .pre in
-    (given .turn, given .limits .few, omega (arith, short-word _ (given .limits)), given .marks-size)
+    record { turn = given .turn; few = given .limits .few; short = short-word _ (given .limits); size = given .marks-size }
 
 words-of-requires : tie.Need-words-of-requires
 words-of-requires c κs = search needs
@@ -29,7 +29,7 @@ array-share-prefix-word c = omega (arith, short-word _ (c .before .before .befor
 
 slice-aggregate-decode-part : tie.Need-slice-aggregate-decode-part
 slice-aggregate-decode-part c =
-    let room : c .before .before .before .before .before .before .before .args .f .n ≤ length (c .before .before .before .take-word .result) = omega (arith, short-word _ (c .before .before .before .before .before .before .before .pre .limits), c .before .before .before .take-word .ensures .1) in
+    let room : c .before .before .before .before .before .before .before .args .f .n ≤ length (c .before .before .before .take-word .result) = omega (arith, short-word _ (c .before .before .before .before .before .before .before .pre .limits), c .before .before .before .take-word .ensures .size) in
     sym (length-take-le _ _ room)
 
 array-share-prefix-marked : tie.Need-array-share-prefix-marked
@@ -37,7 +37,7 @@ array-share-prefix-marked c = omega (arith, short-word _ (c .before .before .bef
 
 slice-aggregate-decode-part-2 : tie.Need-slice-aggregate-decode-part-2
 slice-aggregate-decode-part-2 c =
-    let room : c .before .before .before .before .before .before .before .before .args .f .n ≤ length (c .before .before .before .take-word2 .result) = omega (arith, short-word _ (c .before .before .before .before .before .before .before .before .pre .limits), c .before .before .before .take-word2 .ensures .1) in
+    let room : c .before .before .before .before .before .before .before .before .args .f .n ≤ length (c .before .before .before .take-word2 .result) = omega (arith, short-word _ (c .before .before .before .before .before .before .before .before .pre .limits), c .before .before .before .take-word2 .ensures .size) in
     sym (length-take-le _ _ room)
 
 decode-part-requires : tie.Need-decode-part-requires
@@ -51,10 +51,12 @@ same-length c = search needs
 
 returns : tie.Need-returns
 returns c =
-    let decoded = c .before .before .before .decode-part in
-    let told = rw (c .before .before .before .before .before .before .before .words-of .ensures) at (decoded .ensures) in
-    rw (c .without-reason .ensures)
-    (word-decoded _ _ _ _ _ (c .before .before .before .before .before .before .before .before .before .before .before .before .before .pre) _ _ _ (decoded .result) (c .before .before .before .before .before .before .before .before .before .take-word .ensures .0) (c .before .before .before .before .before .before .before .before .take-word2 .ensures .0) told)
+    let decoded = c .before .before .before in
+    let setting = decoded .before .before .before .before in
+    let marked = setting .before in
+    let word = marked .before in
+    let told = rw (setting .words-of .ensures) at (decoded .decode-part .ensures) in
+    rw (c .without-reason .ensures) (word-found _ _ _ _ _ (word .before .before .before .before .pre) _ _ (word .take-word .ensures) (marked .take-word2 .ensures) _ _ told)
 
 pub receive-word-spec : {M : Type 1} → statement M
 receive-word-spec =

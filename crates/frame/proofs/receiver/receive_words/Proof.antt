@@ -13,7 +13,7 @@ use Rattle.frame.proofs.receiver.receive_words.Statement.{statement}
 use Rattle.frame.proofs.receiver.receive_words.Tie as tie
 
 abbrev Inv-loop : tie.InvT-loop
-Inv-loop f slots marks area₀ k figures₀ w₀ w-end area figures w = Collecting f marks slots area₀ w area figures
+Inv-loop f slots marks area₀ k figures₀ w₀ w-end area figures w = Collecting f slots marks area₀ w area figures
 
 abbrev μ-loop : tie.MeasureT-loop
 μ-loop f slots marks area₀ k figures₀ w₀ w-end area figures w = f .depth - w

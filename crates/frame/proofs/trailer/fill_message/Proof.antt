@@ -4,8 +4,8 @@ use mathlib.Core.Path.{refl}
 use Prim.Native.Nat.{_-_}
 use native.Mathlib.Omega.{arith}
 use lib.ListN.{length}
+use Rattle.algebra.specs.Lists.{Copying, copying-none, copying-more, copying-all}
 use Rattle.frame.specs.Frame.{areaByte, areaSent}
-use Rattle.frame.specs.Slots.{Copying, copying-none, copying-more, copying-all}
 use Rattle.frame.proofs.trailer.fill_message.Statement.{statement}
 use Rattle.frame.proofs.trailer.fill_message.Tie as tie
 

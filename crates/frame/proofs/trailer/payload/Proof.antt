@@ -21,7 +21,7 @@ part-result-end : tie.Need-part-result-end
 part-result-end c = search needs
 
 returns : tie.Need-returns
-returns c = payload-refused _ _ (sym (c .before .before .is-done .ensures) ∙ not-true _ (c .before .if1 .taken))
+returns c = record { outcome = payload-refused _ _ (sym (c .before .before .is-done .ensures) ∙ not-true _ (c .before .if1 .taken)) }
 
 sub-result-2 : tie.Need-sub-result-2
 sub-result-2 c = search needs
@@ -33,7 +33,7 @@ part-result-end-2 : tie.Need-part-result-end-2
 part-result-end-2 c = search needs
 
 returns-2 : tie.Need-returns-2
-returns-2 c = payload-short _ _ (sym (c .before .before .before .is-done .ensures) ∙ not-false _ (c .before .before .if1 .left)) (omega arith)
+returns-2 c = record { outcome = payload-short _ _ (sym (c .before .before .before .is-done .ensures) ∙ not-false _ (c .before .before .if1 .left)) (omega arith) }
 
 cast-back : tie.Need-cast-back
 cast-back c = search needs
@@ -48,7 +48,7 @@ part-result-end-3 : tie.Need-part-result-end-3
 part-result-end-3 c = search needs
 
 returns-3 : tie.Need-returns-3
-returns-3 c = payload-short _ _ (sym (c .before .before .before .before .before .is-done .ensures) ∙ not-false _ (c .before .before .before .before .if1 .left)) (omega arith)
+returns-3 c = record { outcome = payload-short _ _ (sym (c .before .before .before .before .before .is-done .ensures) ∙ not-false _ (c .before .before .before .before .if1 .left)) (omega arith) }
 
 sub-result-4 : tie.Need-sub-result-4
 sub-result-4 c = search needs
@@ -60,7 +60,7 @@ part-result-end-4 : tie.Need-part-result-end-4
 part-result-end-4 c = search needs
 
 returns-4 : tie.Need-returns-4
-returns-4 c = payload-there _ _ (sym (c .before .before .before .before .before .is-done .ensures) ∙ not-false _ (c .before .before .before .before .if1 .left)) (omega arith)
+returns-4 c = record { outcome = payload-there _ _ (sym (c .before .before .before .before .before .is-done .ensures) ∙ not-false _ (c .before .before .before .before .if1 .left)) (omega arith) }
 
 pub payload-spec : {M : Type 1} → statement M
 payload-spec =
