@@ -5,7 +5,7 @@ use mathlib.Core.List.{List, [], _∷_, _++_}
 use Prim.Native.Nat.{ℕ}
 use lib.ListN.{length, drop}
 use Rattle.frame.specs.FrameExample.{received-example}
-use Rattle.frame.specs.Lists.{joined}
+use Rattle.algebra.specs.Lists.{joined}
 use Rattle.text.specs.Text.{bytes, digits, decimal, named, hexDigit, hex, hexes}
 use Rattle.reader.specs.Lines.{firstLine, wordLine, wordLines, frameText}
 use Rattle.reader.specs.Spoken.{blank, answerTo, told, spoken}

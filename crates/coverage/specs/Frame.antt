@@ -8,7 +8,8 @@ use lib.ListN.{length}
 use lib.Dec.{T}
 use Rattle.algebra.specs.Tests.{at, below}
 use Rattle.algebra.specs.Lists.{tabulate}
-use Rattle.frame.specs.Frame.{areaSize, slotCount, sendOutcome, sent, answered, received, payloadOf, numberOf}
+use Rattle.frame.specs.Frame.{areaSize, slotCount, payloadOf, numberOf}
+use Rattle.frame.specs.Promises.{Sends, Receives}
 use Rattle.frame.specs.declared.setting.Framing.{Framing}
 use Rattle.frame.specs.declared.setting.Sent.{Sent}
 use Rattle.frame.specs.declared.setting.Received.{Received}
@@ -33,7 +34,7 @@ pub record FrameSent (f : Framing) (m : Message) (slots : List ℕ) : Type 0 whe
   pub lent : List ℕ
   pub lent-size : length lent ≡ slotCount f
   pub answer : Sent
-  pub promise : sendOutcome answer slots ≡ sent f (m .payload) (m .sequence) lent
+  pub promise : Sends f (m .payload) (m .sequence) lent answer slots
 
 -- ---- on the channel
 
@@ -81,7 +82,7 @@ pub record Answer : Type 0 where
 pub record Answers (f : Framing) (frame : Frame) (a : Answer) : Type 0 where
   pub lent : List ℕ
   pub lent-size : length lent ≡ areaSize f
-  pub promise : answered (a .received) (a .area) ≡ received f (frame .marks) (frame .slots) lent
+  pub promise : Receives f (frame .slots) (frame .marks) lent (a .received) (a .area)
 
 -- the frame is accepted, with the message's payload and sequence number
 pub record ComesBack (m : Message) (a : Answer) : Type 0 where

@@ -12,20 +12,19 @@ use lib.ListN.{length, take, drop, replicate, length-drop, length-replicate}
 use lib.Seq.{take-add, take-at, drop-at, take-all, length-take-le, getD-take, getD-drop}
 use lib.Dec.{T, ltb, lt→ltb}
 use Rattle.algebra.specs.Tests.{at, below, both, below-all, below-at, below-append, first-none, passed}
-use Rattle.algebra.specs.Lists.{length-tabulate}
+use Rattle.algebra.specs.Lists.{length-tabulate, joined, part, within}
 use Rattle.word.specs.Setting.{allowed, messageSize, allowed-yes}
 use Rattle.word.specs.Code.{encoded}
 use Rattle.interleave.specs.Block.{transposed}
-use Rattle.frame.specs.Lists.{joined, part, within}
-use Rattle.frame.specs.Slots.{wordIn, word-back}
-use Rattle.frame.specs.Frame.{wordSetting, areaSize, slotCount, allowedFrame, two, twoAt, trailer, areaSent, wordSent, slotsSent, trailerGood, correctedWord, isNone, messageOf, beyond, areaReceived, figuresReceived, payloadOf, answered, received, numberOf}
+use Rattle.interleave.specs.Slots.{wordIn, word-back}
+use Rattle.frame.specs.Frame.{wordSetting, areaSize, slotCount, allowedFrame, two, twoAt, trailer, areaSent, wordSent, slotsSent, trailerGood, correctedWord, isNone, messageOf, beyond, areaReceived, figuresReceived, payloadOf, numberOf}
 use Rattle.frame.specs.Frame.Limits.{FrameAllowed, frame-kept, area-few}
 use Rattle.frame.specs.Frame.Trailer.{length-sent, sent-zero, sent-trailer, zeros-all, good-within, payload-there}
-use Rattle.frame.specs.Sending.{send-done, send-once}
-use Rattle.frame.specs.Receiving.{settled-good, decoded-settled, receive-decoded, receive-once}
+use Rattle.frame.specs.Promises.{Receives, sends-once, receives-once}
+use Rattle.frame.specs.Sending.{send-done}
+use Rattle.frame.specs.Receiving.{settled-good, decoded-settled, receive-decoded}
 use Rattle.frame.specs.declared.setting.Framing.{Framing}
 use Rattle.frame.specs.declared.setting.Received.{Received}
-use Rattle.frame.specs.declared.setting.Sent.the-variants as S
 use Rattle.frame.specs.declared.setting.Verdict.the-variants.{Done}
 use Rattle.coverage.specs.Channel.{wordOf}
 use Rattle.coverage.specs.Frame.{Message, Fits, FrameSent, inFrame, Frame, Arrives, Answer, Answers, ComesBack}
@@ -100,7 +99,7 @@ module _ (f : Framing) (ok : T (allowedFrame f)) where
     -- slots that meet the promise of `send` are n·J, and hold these words
     module _ (slots : List ℕ) (s : FrameSent f m slots) where
       slots-are : slots ≡ slotsSent f (m .payload) (m .sequence)
-      slots-are = send-once f (m .payload) (m .sequence) (s .lent) (s .answer) S.Done slots _ (s .promise) (send-done f (m .payload) (m .sequence) (s .lent) (passed _ ok) (s .lent-size) (fits .short) _ refl) .1
+      slots-are = sends-once (s .promise) (send-done f (m .payload) (m .sequence) (s .lent) (record { limits = limits; slots-size = s .lent-size; fits = room }) _ refl) .1
 
       pub slots-size : length slots ≡ slotCount f
       unfolding slotsSent transposed
@@ -146,25 +145,25 @@ module _ (f : Framing) (ok : T (allowedFrame f)) where
     module _ (frame : Frame) (a : Arrives f m frame) where
       -- the answer to the frame, whatever area is lent
       abbrev answer : Received
-      answer = record { verdict = Done; sequence = m .sequence; back = length (m .payload); figures = figuresReceived f (frame .marks) (frame .slots) }
+      answer = record { verdict = Done; sequence = m .sequence; back = length (m .payload); figures = figuresReceived f (frame .slots) (frame .marks) }
 
       word-came : (w : ℕ) → w < f .depth → Came (wordSetting f) (word w) (wordOf (inFrame f) (frame .slots) w) (wordOf (inFrame f) (frame .marks) w)
       word-came w l =
           came-in (wordSetting f) refl (word w) _ _ (encoded-code (wordSetting f) code-allowed (message w) (message-size w l) (message-bytes w l))
           (rw (slots-hold (a .sent) (a .sending) w l) at (a .within w l)) (picked (f .n) (λ i. i * f .depth + w) (frame .slots) (frame .marks) (a .channel))
 
-      word-found : (w : ℕ) → w < f .depth → correctedWord f (frame .marks) (frame .slots) w ≡ some (word w)
+      word-found : (w : ℕ) → w < f .depth → correctedWord f (frame .slots) (frame .marks) w ≡ some (word w)
       unfolding correctedWord wordIn
       word-found w l = word-corrected (wordSetting f) code-allowed _ _ (word w) (word-came w l)
 
-      none-beyond : beyond f (frame .marks) (frame .slots) ≡ f .depth
+      none-beyond : beyond f (frame .slots) (frame .marks) ≡ f .depth
       unfolding beyond
-      none-beyond = first-none (f .depth) (λ w. isNone (correctedWord f (frame .marks) (frame .slots) w)) λ w l. rw (word-found w l)
+      none-beyond = first-none (f .depth) (λ w. isNone (correctedWord f (frame .slots) (frame .marks) w)) λ w l. rw (word-found w l)
 
-      area-found : areaReceived f (frame .marks) (frame .slots) ≡ area
+      area-found : areaReceived f (frame .slots) (frame .marks) ≡ area
       unfolding areaReceived messageOf
       area-found =
-          joined-front k (messageOf f (frame .marks) (frame .slots)) area (f .depth) (λ w l. rw (word-found w l) (encoded-message (wordSetting f) code-allowed (message w) (message-size w l) (message-bytes w l)))
+          joined-front k (messageOf f (frame .slots) (frame .marks)) area (f .depth) (λ w l. rw (word-found w l) (encoded-message (wordSetting f) code-allowed (message w) (message-size w l) (message-bytes w l)))
           ∙ take-all (areaSize f) area (omega (arith, area-size))
 
       payload-found : payloadOf answer area ≡ m .payload
@@ -173,16 +172,17 @@ module _ (f : Framing) (ok : T (allowedFrame f)) where
           let e : length area - 4 - (length area - 4 - back) ≡ back = omega (arith, area-size, room) in
           sym (payload-there answer area refl (omega (arith, area-size, room))) ∙ rw (e, area-size) payload-sent
 
-      answered-so : (lent : List ℕ) → length lent ≡ areaSize f → answered answer area ≡ received f (frame .marks) (frame .slots) lent
+      answered-so : (lent : List ℕ) → length lent ≡ areaSize f → Receives f (frame .slots) (frame .marks) lent answer area
       answered-so lent size =
-          settled-good (answer .figures) area (omega (arith, area-size, room)) (rw area-size trailer-good) (m .sequence) (length (m .payload)) (rw area-size (sym sequence-sent)) (rw area-size (sym back-sent))
-          ∙ decoded-settled f (frame .marks) (frame .slots) none-beyond (length area) (answer .figures) area area-size refl (sym area-found)
-          ∙ receive-decoded f (frame .marks) (frame .slots) lent (passed _ ok) (a .channel .slots-size) (a .channel .marks-size) size (passed _ (a .channel .zero-or-one))
+          receive-decoded f (frame .slots) (frame .marks) lent
+          (record { limits = limits; slots-size = a .channel .slots-size; marks-size = a .channel .marks-size; marks-small = a .channel .zero-or-one; area-size = size }) answer area
+          (settled-good (answer .figures) area (omega (arith, area-size, room)) (rw area-size trailer-good) (m .sequence) (length (m .payload)) (rw area-size (sym sequence-sent)) (rw area-size (sym back-sent))
+          ∙ decoded-settled f (frame .slots) (frame .marks) none-beyond (length area) (answer .figures) area area-size refl (sym area-found))
 
       -- no other answer meets the promise
       comes-back : (r : Answer) → Answers f frame r → ComesBack m r
       comes-back r p =
-          let (x, y) = receive-once f (frame .marks) (frame .slots) (p .lent) (r .received) answer (r .area) area (p .promise) (answered-so (p .lent) (p .lent-size)) in
+          let (x, y) = receives-once (p .promise) (answered-so (p .lent) (p .lent-size)) in
           record {
             number = ap (λ (z : Received). numberOf (z .verdict)) x;
             payload = ap₂ payloadOf x y ∙ payload-found;

@@ -77,7 +77,7 @@ frame-sent = record {
   lent = replicate 10 0;
   lent-size = refl;
   answer = Done;
-  promise = sym sent-example;
+  promise = record { outcome = sym sent-example };
 }
 
 pub frame-arrives : Arrives example message frame

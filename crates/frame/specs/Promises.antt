@@ -54,8 +54,7 @@ verdict-as BadTrailer = refl
 pub receives-once : {f : Framing} {slots marks area : List ℕ} {r s : Received} {x y : List ℕ}
     → Receives f slots marks area r x → Receives f slots marks area s y → (r ≡ s) × (x ≡ y)
 receives-once {r = r} {s = s} p q =
-    let same = p .outcome ∙ sym (q .outcome) in
-    (
+    let same = p .outcome ∙ sym (q .outcome) in (
       λ i. record {
         verdict = (sym (verdict-as (r .verdict)) ∙ ap (λ (o : ReceiveOutcome). verdictAs (o .number) (o .word)) same ∙ verdict-as (s .verdict)) i;
         sequence = same i .sequence;

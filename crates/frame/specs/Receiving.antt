@@ -1,6 +1,6 @@
 -- The answers of receiving one by one: what the trailer says, what the words say, and what the checks say.
 -- Assumes nothing.
-use mathlib.Core.Path.{_≡_, refl, _∙_}
+use mathlib.Core.Path.{_≡_, refl, sym, _∙_}
 use mathlib.Core.Bool.{true, false}
 use mathlib.Core.List.{List}
 use Prim.Native.Nat.{ℕ, _+_, _-_, _≤_, _<_}
@@ -47,9 +47,12 @@ module _ (f : Framing) (slots marks : List ℕ) where
 -- ---- the checks
 
 module _ (f : Framing) (slots marks area : List ℕ) where
-  pub receive-refused : (k : ℕ) → k ≡ receiveRefusal f slots marks area → 0 < k → Receives f slots marks area (refusedWith k 0) area
+  pub receiving-refused : (k : ℕ) → k ≡ receiveRefusal f slots marks area → 0 < k → receiving f slots marks area ≡ refusedFrame k 0 area
   unfolding receiving
-  receive-refused k e h = record { outcome = rw e (receive-numbered f slots marks area (rw e at h) area) ∙ unless-refused (λ n. refusedFrame n 0 area) _ k _ e h }
+  receiving-refused k e h = sym (unless-refused (λ n. refusedFrame n 0 area) _ k _ e h)
+
+  pub receive-refused : (k : ℕ) → k ≡ receiveRefusal f slots marks area → 0 < k → Receives f slots marks area (refusedWith k 0) area
+  receive-refused k e h = record { outcome = rw e (receive-numbered f slots marks area (rw e at h) area) ∙ sym (receiving-refused k e h) }
 
   pub receive-decoded : ReceiveChecked f slots marks area → (r : Received) (left : List ℕ) → receiveOutcome r left ≡ decodedFrame f slots marks → Receives f slots marks area r left
   unfolding receiving

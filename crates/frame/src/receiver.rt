@@ -96,19 +96,19 @@ fn refused(number: u8, word: u8) -> Received
 }
 
 // The answer of a frame whose words are all accepted: what its trailer says.
-fn settle(area: &mut [u8], figures: [Figures; 16]) -> Received
-    requires { ⌜ 4 ≤ length (now area) ⌝ }
-    ensures { λ r. ⌜ receiveOutcome r (now (area .exit)) ≡ settled (length (now (area .entry))) figures (now (area .entry)) ⌝ }
+fn settle(whole: &mut [u8], figures: [Figures; 16]) -> Received
+    requires { ⌜ 4 ≤ length (now whole) ⌝ }
+    ensures { λ r. ⌜ receiveOutcome r (now (whole .exit)) ≡ settled (length (now (whole .entry))) figures (now (whole .entry)) ⌝ }
 {
-    if !is_good(area) {
-        fill(area, 0);
+    if !is_good(whole) {
+        fill(whole, 0);
         return refused(5, 0);
     }
-    let end = area.len() - 4;
+    let end = whole.len() - 4;
     Received {
         verdict: Verdict::Done,
-        sequence: two_at(area, end + 2),
-        back: two_at(area, end),
+        sequence: two_at(whole, end + 2),
+        back: two_at(whole, end),
         figures,
     }
 }

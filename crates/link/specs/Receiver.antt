@@ -2,12 +2,11 @@
 -- Assumes nothing.
 use mathlib.Core.List.{List}
 use Prim.Native.Nat.{ℕ}
-use Rattle.frame.specs.Frame.{ReceiveOutcome, receiveOutcome, payloadOf, received}
+use Rattle.frame.specs.Frame.{ReceiveOutcome, receiveOutcome, receiving}
 use Rattle.record.specs.Record.{noted}
 use Rattle.frame.specs.declared.setting.Framing.{Framing}
 use Rattle.frame.specs.declared.setting.Received.{Received}
 use Rattle.record.specs.declared.Record.{Record}
-pub mod Laws
 
 -- what hearing a frame answers and leaves: the frame's answer with the area, and the record after it
 pub record HearOutcome : Type 0 where
@@ -15,10 +14,10 @@ pub record HearOutcome : Type 0 where
   pub next : Record
 
 abbrev pub hearOutcome : Received → Record → List ℕ → HearOutcome
-hearOutcome answer next area = record { frame = receiveOutcome answer area (payloadOf answer area); next = next }
+hearOutcome answer next area = record { frame = receiveOutcome answer area; next = next }
 
 -- the frame is received, and the number and sequence number that it was answered are noted
-unfoldable pub heard : Record → Framing → List ℕ → List ℕ → List ℕ → HearOutcome
-heard h f marks slots area =
-    let o = received f marks slots area in
-    record { frame = o; next = noted h (o .number) (o .sequence) }
+unfoldable pub hearing : Record → Framing → (slots marks area : List ℕ) → HearOutcome
+hearing before f slots marks area =
+    let o = receiving f slots marks area in
+    record { frame = o; next = noted before (o .number) (o .sequence) }

@@ -1,7 +1,6 @@
 // The receiver's whole call: document 01, sections Block interleaver and frame, and Receiver's record. A frame is received, and what it
-// was answered is noted in the record, so that no caller notes another number. What each call promises is defined in specs/Receiver.antt.
-ghost use mathlib.Core.Path.{_≡_};
-ghost use Rattle.link.specs.Receiver.{heard, hearOutcome};
+// was answered is noted in the record, so that no caller notes another number.
+ghost use Rattle.link.specs.Promises.{Hears};
 use frame::Framing;
 use frame::Received;
 use frame::numbers::number_of;
@@ -17,7 +16,7 @@ pub struct Heard {
 
 // Receives a frame into the lent area as `receive` does, and notes its number and its sequence number in the record.
 pub fn hear(before: Record, f: Framing, slots: &[u8], marks: &[u8], area: &mut [u8]) -> Heard
-    ensures { λ t. ⌜ hearOutcome (t .answer) (t .next) (now (area .exit)) ≡ heard before f (now (marks .entry)) (now (slots .entry)) (now (area .entry)) ⌝ }
+    ensures { λ t. ⌜ Hears before f (now (slots .entry)) (now (marks .entry)) (now (area .entry)) (t .answer) (t .next) (now (area .exit)) ⌝ }
 {
     let answer = receive(f, slots, marks, area);
     let verdict = answer.verdict;
@@ -33,7 +32,7 @@ pub fn hear_in(
     marks: &[u8],
     area: &mut [u8],
 ) -> Received
-    ensures { λ a. ⌜ hearOutcome a (now (lent .exit)) (now (area .exit)) ≡ heard (now (lent .entry)) f (now (marks .entry)) (now (slots .entry)) (now (area .entry)) ⌝ }
+    ensures { λ a. ⌜ Hears (now (lent .entry)) f (now (slots .entry)) (now (marks .entry)) (now (area .entry)) a (now (lent .exit)) (now (area .exit)) ⌝ }
 {
     let t = hear(*lent, f, slots, marks, area);
     *lent = t.next;

@@ -1,14 +1,13 @@
 // Receiving a frame and finding its payload in one call: document 01, section Block interleaver and frame.
-ghost use mathlib.Core.Path.{_≡_};
 ghost use mathlib.Core.List.{map};
-ghost use Rattle.frame.specs.Frame.{received, handedBack};
+ghost use Rattle.link.specs.Promises.{ReceivesPart};
 use frame::Framing;
 use frame::payload;
 use frame::receive;
 
 // Decodes a received frame into the lent area as `receive` does, and hands back the whole area and the payload as that part of it.
 pub fn receive_part<'a>(f: Framing, slots: &[u8], marks: &[u8], area: &'a mut [u8]) -> [&'a [u8]; 2]
-    ensures { λ p. ⌜ map now p ≡ handedBack (received f (now (marks .entry)) (now (slots .entry)) (now (area .entry))) ⌝ }
+    ensures { λ p. ⌜ ReceivesPart f (now (slots .entry)) (now (marks .entry)) (now (area .entry)) (map now p) ⌝ }
 {
     let r = receive(f, slots, marks, &mut area[..]);
     let t = &area[..];

@@ -12,13 +12,12 @@ use lib.Dec.{eqb}
 use lib.ListN.{length, take, drop, length-take, length-drop}
 use borrow.Author.Tests.{ne-eqb, le-leb, lt-leb}
 use Rattle.algebra.specs.Tests.{if_then_else_}
-use Rattle.frame.specs.Frame.{allowedFrame, sentNumber, sendOutcome, sent, numberOf, wordNumber, isDone, payloadIn, payloadOf, answered, received}
+use Rattle.frame.specs.Frame.{allowedFrame, sentNumber, numberOf, wordNumber, isDone, payloadIn, payloadOf}
+use Rattle.frame.specs.Promises.{Sends, Receives, sends-once, receives-once}
 use Rattle.frame.specs.declared.setting.Framing.{Framing}
 use Rattle.frame.specs.declared.setting.Received.{Received}
 use Rattle.frame.specs.declared.setting.Verdict.{Verdict}
 use Rattle.frame.specs.declared.setting.Verdict.the-variants.{Done, BadSetting, BadLength, BadMark, BeyondReach, BadTrailer}
-use Rattle.frame.specs.Sending.{send-once}
-use Rattle.frame.specs.Receiving.{receive-once}
 use Rattle.radio.specs.Shown.{Shows, shown-once}
 use Rattle.radio.specs.declared.frames.FrameSetting.{FrameSetting}
 use Rattle.radio.specs.declared.frames.FrameAnswer.{FrameAnswer}
@@ -45,10 +44,10 @@ frameSeen area t =
 -- ---- the promises, each of the call below with what is seen of its answer
 
 abbrev pub FrameSend : FrameSetting → List ℕ → ℕ → List ℕ → ℕ → List ℕ → Type 0
-FrameSend s payload sequence slots r left = Shows sentNumber (λ d. sendOutcome d left ≡ sent (framingOf s) payload sequence slots) r
+FrameSend s payload sequence slots r left = Shows sentNumber (λ d. Sends (framingOf s) payload sequence slots d left) r
 
 abbrev pub FrameReceive : FrameSetting → List ℕ → List ℕ → List ℕ → FrameAnswer → List ℕ → Type 0
-FrameReceive s slots marks area r left = Shows (frameSeen left) (λ t. answered t left ≡ received (framingOf s) marks slots area) r
+FrameReceive s slots marks area r left = Shows (frameSeen left) (λ t. Receives (framingOf s) slots marks area t left) r
 
 -- ---- laws
 
@@ -100,10 +99,10 @@ frame-is-allowed-once s r q p u = cc
 module _ (s : FrameSetting) where
   pub frame-send-once : (payload : List ℕ) (sequence : ℕ) (slots : List ℕ) (r q : ℕ) (x y : List ℕ) → FrameSend s payload sequence slots r x → FrameSend s payload sequence slots q y → (r ≡ q) × (x ≡ y)
   frame-send-once payload sequence slots r q x y p u =
-      let (e, l) = send-once _ _ _ _ (p .inner) (u .inner) x y (p .promised) (u .promised) in
+      let (e, l) = sends-once (p .promised) (u .promised) in
       (shown-once p u refl e, l)
 
   pub frame-receive-once : (slots marks area : List ℕ) (r q : FrameAnswer) (x y : List ℕ) → FrameReceive s slots marks area r x → FrameReceive s slots marks area q y → (r ≡ q) × (x ≡ y)
   frame-receive-once slots marks area r q x y p u =
-      let (e, l) = receive-once _ _ _ _ (p .inner) (u .inner) x y (p .promised) (u .promised) in
+      let (e, l) = receives-once (p .promised) (u .promised) in
       (shown-once p u (ap frameSeen l) e, l)

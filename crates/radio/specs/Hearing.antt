@@ -5,8 +5,7 @@ use mathlib.Core.Path.{_≡_, ap, ap₂}
 use mathlib.Core.List.{List}
 use Prim.Native.Nat.{ℕ}
 use Rattle.record.specs.declared.Record.{Record}
-use Rattle.link.specs.Receiver.{hearOutcome, heard}
-use Rattle.link.specs.Receiver.Laws.{hear-once as heard-once}
+use Rattle.link.specs.Promises.{Hears, hears-once}
 use Rattle.link.specs.declared.hearing.Heard.{Heard}
 use Rattle.radio.specs.Shown.{Shows, shown-once}
 use Rattle.radio.specs.Frames.{framingOf, frameSeen}
@@ -25,10 +24,10 @@ heardSeen before area t = bothSeen (recordSeen before (t .next)) (frameSeen area
 
 -- `yaxo_hear` answers this, and `yaxo_hear_in` leaves the record and answers the rest
 abbrev pub Hear : LentRecord → FrameSetting → List ℕ → List ℕ → List ℕ → HeardAnswer → List ℕ → Type 0
-Hear h s slots marks area r left = Shows (heardSeen h left) (λ t. hearOutcome (t .answer) (t .next) left ≡ heard (recordOf h) (framingOf s) marks slots area) r
+Hear h s slots marks area r left = Shows (heardSeen h left) (λ t. Hears (recordOf h) (framingOf s) slots marks area (t .answer) (t .next) left) r
 
 -- no second answer, and nothing else is left in the lent record and area
 pub hear-once : (h : LentRecord) (s : FrameSetting) (slots marks area : List ℕ) (r q : HeardAnswer) (x y : List ℕ) → Hear h s slots marks area r x → Hear h s slots marks area q y → (r ≡ q) × (x ≡ y)
 hear-once h s slots marks area r q x y p u =
-    let (a, n, l) = heard-once _ _ _ _ _ (p .inner .answer) (u .inner .answer) (p .inner .next) (u .inner .next) _ _ (p .promised) (u .promised) in
+    let (a, n, l) = hears-once (p .promised) (u .promised) in
     (shown-once p u (ap (heardSeen h) l) (ap₂ (λ (k : Record) (t : _). record { next = k; answer = t }) n a), l)

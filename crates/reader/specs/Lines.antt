@@ -5,7 +5,7 @@ use Prim.Native.Nat.{ℕ}
 use lib.ListN.{length, getD}
 use Rattle.word.specs.Answers.{noFigures}
 use Rattle.word.specs.declared.Figures.{Figures}
-use Rattle.frame.specs.Lists.{joined}
+use Rattle.algebra.specs.Lists.{joined}
 use Rattle.text.specs.Text.{bytes, named, hexes}
 pub mod Laws
 

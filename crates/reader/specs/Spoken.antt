@@ -5,7 +5,7 @@ use Prim.Native.Nat.{ℕ}
 use lib.Dec.{ltb, eqb}
 use lib.ListN.{length, drop, replicate}
 use Rattle.algebra.specs.Tests.{if_then_else_, at}
-use Rattle.frame.specs.Frame.{slotCount, areaSize, ReceiveOutcome, received}
+use Rattle.frame.specs.Frame.{slotCount, areaSize, ReceiveOutcome, receiving}
 use Rattle.frame.specs.declared.setting.Framing.{Framing}
 use Rattle.text.specs.Text.{refusal}
 use Rattle.reader.specs.Head.{framingOf}
@@ -18,7 +18,7 @@ blank n = replicate n 0
 
 -- the frame as it is received: its slots unmarked, into a fresh area
 unfoldable pub answerTo : Framing → List ℕ → ReceiveOutcome
-answerTo f slots = received f (blank (slotCount f)) slots (blank (areaSize f))
+answerTo f slots = receiving f slots (blank (slotCount f)) (blank (areaSize f))
 
 -- what is said of an answer
 unfoldable pub told : ℕ → ReceiveOutcome → List ℕ

@@ -2,7 +2,7 @@
 ghost use mathlib.Core.Path.{_≡_};
 ghost use Prim.Native.Nat.{_≤_};
 ghost use lib.ListN.{length};
-ghost use Rattle.frame.specs.Frame.{received};
+ghost use Rattle.frame.specs.Frame.{receiving};
 ghost use Rattle.frame.specs.Frame.Limits.{FrameAllowed};
 ghost use Rattle.text.specs.Put.{Put};
 ghost use Rattle.reader.specs.Promises.{Reports};
@@ -24,7 +24,7 @@ fn work_space() -> [u8; 4080]
 // Receives a frame and writes what it was answered.
 fn put_answer(f: Framing, slots: &[u8], marks: &[u8], area: &mut [u8], text: &mut [u8]) -> usize
     requires { ⌜ (f .depth ≤ 16) × (length (now area) ≤ 4080) × (9000 ≤ length (now text)) ⌝ }
-    ensures { λ r. ⌜ Put (told (f .depth) (received f (now (marks .entry)) (now (slots .entry)) (now (area .entry)))) (now (text .entry)) 0 r (now (text .exit)) ⌝ }
+    ensures { λ r. ⌜ Put (told (f .depth) (receiving f (now (slots .entry)) (now (marks .entry)) (now (area .entry)))) (now (text .entry)) 0 r (now (text .exit)) ⌝ }
 {
     let answer = link::receive(f, slots, marks, area);
     let verdict = answer.verdict;

@@ -19,7 +19,7 @@ use Rattle.word.specs.declared.Encoded.{Encoded}
 use Rattle.word.specs.declared.Encoded.the-variants as E
 
 module _ {O : Type 0} (refuse : ℕ → O) (done : O) where
-  unless-refused : (k z : ℕ) → k ≡ z → 0 < k → refuse k ≡ unless z refuse done
+  pub unless-refused : (k z : ℕ) → k ≡ z → 0 < k → refuse k ≡ unless z refuse done
   unfolding unless
   unless-refused k z e h = stays k h ∙ ap (λ (y : ℕ). unless y refuse done) e
     where
@@ -27,7 +27,7 @@ module _ {O : Type 0} (refuse : ℕ → O) (done : O) where
       stays zero h = absurd (not-suc-le-zero h)
       stays (suc j) h = refl
 
-  unless-not : (z : ℕ) → 0 ≡ z → done ≡ unless z refuse done
+  pub unless-not : (z : ℕ) → 0 ≡ z → done ≡ unless z refuse done
   unfolding unless
   unless-not z e = rw (← e)
 

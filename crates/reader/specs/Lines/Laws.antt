@@ -6,7 +6,7 @@ use Prim.Native.Nat.{ℕ, _+_, _≤_}
 use lib.ListN.{length, getD}
 use Rattle.word.specs.Answers.{noFigures}
 use Rattle.word.specs.declared.Figures.{Figures}
-use Rattle.frame.specs.Lists.{joined, joined-more}
+use Rattle.algebra.specs.Lists.{joined, joined-more}
 use Rattle.text.specs.Text.{bytes, named, hexes}
 use Rattle.text.specs.Put.{Put, put-none, put-then}
 use Rattle.reader.specs.Lines.{newline, firstLine, wordLine, wordLines, frameText}

@@ -11,8 +11,10 @@ use lib.Dec.{leb}
 use lib.ListN.{length, take, drop, length-take, length-drop}
 use lib.Seq.{length-take-le, take-all}
 use Rattle.algebra.specs.Tests.{if_then_else_, at}
-use Rattle.frame.specs.Frame.{slotCount, areaSize, allowedFrame, ReceiveOutcome, received, numberOf, isDone, payloadIn, payloadOf, answered}
+use Rattle.frame.specs.Frame.{slotCount, areaSize, allowedFrame, ReceiveOutcome, receiveOutcome, receiving, numberOf, isDone, payloadIn, payloadOf}
 use Rattle.frame.specs.Frame.Limits.{FrameAllowed, slots-few, area-few}
+use Rattle.frame.specs.Checks.{receive-setting}
+use Rattle.frame.specs.Receiving.{receiving-refused}
 use Rattle.frame.specs.declared.setting.Framing.{Framing}
 use Rattle.frame.specs.declared.setting.Received.{Received}
 use Rattle.text.specs.Put.{Put}
@@ -23,7 +25,7 @@ use Rattle.reader.specs.Spoken.{blank, answerTo, told, spoken}
 
 -- ---- what is said of an answer
 
-module _ (depth : ℕ) (r : Received) (area : List ℕ) (o : ReceiveOutcome) (e : answered r area ≡ o) (k : ℕ) (n : k ≡ numberOf (r .verdict)) {text after : List ℕ} {at last : ℕ} where
+module _ (depth : ℕ) (r : Received) (area : List ℕ) (o : ReceiveOutcome) (e : receiveOutcome r area ≡ o) (k : ℕ) (n : k ≡ numberOf (r .verdict)) {text after : List ℕ} {at last : ℕ} where
   pub told-refused : (k ≡ 0 → ⊥) → Put (refusal k) text at last after → Put (told depth o) text at last after
   unfolding told
   told-refused z p = rw (← e, ← n, ne-eqb k 0 z) p
@@ -57,8 +59,11 @@ module _ (input : List ℕ) where
     spoken-answer = rw (le-ltb (length input) 4 long, take-all (length input - 4) (drop 4 input) (simp length-drop (omega arith)))
 
     pub spoken-setting : allowedFrame (framingOf input) ≡ false → refusal 1 ≡ spoken input
-    unfolding spoken answerTo received told
-    spoken-setting a = rw (le-ltb (length input) 4 long, a)
+    unfolding spoken answerTo told
+    spoken-setting a =
+        let f = framingOf input in
+        let refused = receive-setting f (drop 4 input) (blank (slotCount f)) (blank (areaSize f)) a in
+        rw (le-ltb (length input) 4 long, receiving-refused f (drop 4 input) (blank (slotCount f)) (blank (areaSize f)) 1 refused (omega arith))
 
 -- ---- the work space
 
@@ -75,7 +80,7 @@ part-size n w l e = sym (length-take-le n w (omega arith))
 
 -- the work space's parts are the marks and the area that are meant
 pub unmarked : (f : Framing) (slots w₁ w₂ : List ℕ) → FrameAllowed f → w₁ ≡ blank 4080 → w₂ ≡ blank 4080
-    → received f (take (slotCount f) w₁) slots (take (areaSize f) w₂) ≡ answerTo f slots
+    → receiving f slots (take (slotCount f) w₁) (take (areaSize f) w₂) ≡ answerTo f slots
 unfolding answerTo
 unmarked f slots w₁ w₂ l e g =
     rw (e, g, blank-front (slotCount f) 4080 (slots-few f l), blank-front (areaSize f) 4080 (area-few f l))

@@ -9,16 +9,21 @@ use borrow.Author.Tests.{ltb-true, ltb-false, leb-true, leb-false, le-ltb, ne-eq
 use lib.Dec.{ltb, leb}
 use lib.ListN.{length, take, drop, length-drop}
 use lib.Seq.{take-all, length-take-le}
-use Rattle.frame.specs.Frame.{slotCount, allowedFrame, received}
-use Rattle.reader.specs.Spoken.{answerTo, told, spoken}
+use Rattle.frame.specs.Frame.{slotCount, areaSize, allowedFrame}
+use Rattle.frame.specs.Checks.{receive-slots}
+use Rattle.frame.specs.Receiving.{receiving-refused}
+use Rattle.reader.specs.Spoken.{blank, answerTo, told, spoken}
 use Rattle.text.specs.Text.{refusal}
 use Rattle.reader.specs.Head.{framingOf, wantedOf, framing-front, wanted-short, wanted-refused, wanted-slots}
 use Rattle.reader.specs.Spoken.Answers.{spoken-setting}
 
 -- a wrong total
 spoken-total : (input : List ℕ) → 4 ≤ length input → allowedFrame (framingOf input) ≡ true → (length (drop 4 input) ≡ slotCount (framingOf input) → ⊥) → refusal 2 ≡ spoken input
-unfolding spoken answerTo received told
-spoken-total input long a n = rw (le-ltb (length input) 4 long, a, ne-eqb (length (drop 4 input)) (slotCount (framingOf input)) n)
+unfolding spoken answerTo told
+spoken-total input long a n =
+    let f = framingOf input in
+    let refused = receive-slots f (drop 4 input) (blank (slotCount f)) (blank (areaSize f)) a n in
+    rw (le-ltb (length input) 4 long, receiving-refused f (drop 4 input) (blank (slotCount f)) (blank (areaSize f)) 2 refused (omega arith))
 
 module _ (input : List ℕ) (long : 4 ≤ length input) where
   -- a setting that is refused

@@ -29,18 +29,18 @@ loop-holds c = rw (c .no-figures .ensures) (collecting-none _ _ _ _ (c .before .
 
 mul-a : tie.Need-mul-a Inv-loop μ-loop
 mul-a c =
-    let given = c .before .before .before .before .before .before .before .pre in
-    let inv = c .before .loop .inv in
-    let room = fits _ _ _ _ _ _ _ inv (c .loop-test .taken) in
-    let size = same _ _ _ _ _ _ _ inv in
+    let loop = c .before in
+    let given = loop .before .before .before .before .before .before .pre in
+    let room = fits _ _ _ _ _ _ _ (loop .loop .inv) (c .loop-test .taken) in
+    let size = same _ _ _ _ _ _ _ (loop .loop .inv) in
     omega (arith, area-few _ (given .limits), given .area-size)
 
 add-receive-word : tie.Need-add-receive-word Inv-loop μ-loop
 add-receive-word c =
-    let given = c .before .before .before .before .before .before .before .pre in
-    let inv = c .before .loop .inv in
-    let room = fits _ _ _ _ _ _ _ inv (c .loop-test .taken) in
-    let size = same _ _ _ _ _ _ _ inv in
+    let loop = c .before in
+    let given = loop .before .before .before .before .before .before .pre in
+    let room = fits _ _ _ _ _ _ _ (loop .loop .inv) (c .loop-test .taken) in
+    let size = same _ _ _ _ _ _ _ (loop .loop .inv) in
     omega (arith, area-few _ (given .limits), given .area-size)
 
 sub-receive-word : tie.Need-sub-receive-word Inv-loop μ-loop
@@ -54,8 +54,9 @@ part-receive-word-end c = fits _ _ _ _ _ _ _ (c .before .loop .inv) (c .loop-tes
 
 receive-word-requires : tie.Need-receive-word-requires Inv-loop μ-loop
 receive-word-requires c κs =
-    let given = c .before .before .before .before .before .before .before .before .pre in
-    let room = fits _ _ _ _ _ _ _ (c .before .before .loop .inv) (c .before .loop-test .taken) in
+    let loop = c .before .before in
+    let given = loop .before .before .before .before .before .before .pre in
+    let room = fits _ _ _ _ _ _ _ (loop .loop .inv) (c .before .loop-test .taken) in
     record {
       limits = given .limits;
       turn = c .before .loop-test .taken;
@@ -67,42 +68,51 @@ receive-word-requires c κs =
 
 same-length : tie.Need-same-length Inv-loop μ-loop
 same-length c =
-    let f = c .before .before .before .before .before .before .before .before .before .before .before .before .before .args .f in
-    let loop = c .before .before .before .before .before .before .before .loop in
-    let taken = c .before .before .before .before .before .before .loop-test .taken in
+    let found = c .before .before .before .before in
+    let loop = found .before .before .before .loop in
+    let f = found .before .before .before .before .before .before .before .before .before .args .f in
     let a : ℕ = loop .w * (f .n - f .r) in
+    let kept : length (found .receive-word .last .1 .1 .1 .1 .0) ≡ length (take (a + (f .n - f .r) - a) (drop a (loop .area))) = search needs in
+    let taken = found .before .before .loop-test .taken in
     let room = fits _ _ _ _ _ _ _ (loop .inv) taken in
-    let back = c .before .before .before .before .receive-word in
-    let kept : length (back .last .1 .1 .1 .1 .0) ≡ length (take (a + (f .n - f .r) - a) (drop a (loop .area))) = search needs in
-    let size : length (back .last .1 .1 .1 .1 .0) ≡ f .n - f .r = kept ∙ simp (length-take, length-drop) (omega arith) in
-    put-size _ _ _ _ _ _ _ (loop .inv) taken (back .last .1 .1 .1 .1 .0) size
+    put-size _ _ _ _ _ _ _ (loop .inv) taken (found .receive-word .last .1 .1 .1 .1 .0) (kept ∙ simp (length-take, length-drop) (omega arith))
 
 returns : tie.Need-returns Inv-loop μ-loop
-returns c = collected-lost _ _ _ _ _ _ _ (c .before .before .before .before .before .before .before .loop .inv) (c .before .before .before .before .before .before .loop-test .taken) _ _ _ (not-true _ (c .if1 .taken)) (c .before .before .before .before .receive-word .ensures)
+returns c =
+    let found = c .before .before .before .before in
+    let test = found .before .before in
+    collected-lost _ _ _ _ _ _ _ (test .before .loop .inv) (test .loop-test .taken) _ _ _ (not-true _ (c .if1 .taken)) (found .receive-word .ensures)
 
 mul-figures : tie.Need-mul-figures Inv-loop μ-loop
-mul-figures c = omega (arith, c .before .before .before .before .before .before .before .before .before .before .before .before .before .before .pre .limits .few)
+mul-figures c =
+    let loop = c .before .before .before .before .before .before .before .before in
+    omega (arith, loop .before .before .before .before .before .before .pre .limits .few)
 
 array-set-from-figures : tie.Need-array-set-from-figures Inv-loop μ-loop
-array-set-from-figures c = omega (arith, c .before .before .before .before .before .before .before .before .before .before .before .before .before .before .pre .limits .few)
+array-set-from-figures c =
+    let loop = c .before .before .before .before .before .before .before .before in
+    omega (arith, loop .before .before .before .before .before .before .pre .limits .few)
 
 add-w : tie.Need-add-w Inv-loop μ-loop
-add-w c = omega (arith, c .before .before .before .before .before .before .before .before .before .before .before .before .before .before .pre .limits .few)
+add-w c =
+    let loop = c .before .before .before .before .before .before .before .before in
+    omega (arith, loop .before .before .before .before .before .before .pre .limits .few)
 
 loop-less : tie.Need-loop-less Inv-loop μ-loop
 loop-less c = omega arith
 
 loop-again : tie.Need-loop-again Inv-loop μ-loop
 loop-again c =
-    let f = c .before .before .before .before .before .before .before .before .before .before .before .before .before .before .args .f in
-    let loop = c .before .before .before .before .before .before .before .before .loop in
-    let taken = c .before .before .before .before .before .before .before .loop-test .taken in
+    let found = c .before .before .before .before .before in
+    let loop = found .before .before .before .loop in
+    let start = found .before .before .before .before .before .before .before .before .before in
+    let f = start .args .f in
     let a : ℕ = loop .w * (f .n - f .r) in
+    let kept : length (found .receive-word .last .1 .1 .1 .1 .0) ≡ length (take (a + (f .n - f .r) - a) (drop a (loop .area))) = search needs in
+    let taken = found .before .before .loop-test .taken in
     let room = fits _ _ _ _ _ _ _ (loop .inv) taken in
-    let back = c .before .before .before .before .before .receive-word in
-    let kept : length (back .last .1 .1 .1 .1 .0) ≡ length (take (a + (f .n - f .r) - a) (drop a (loop .area))) = search needs in
-    let size : length (back .last .1 .1 .1 .1 .0) ≡ f .n - f .r = kept ∙ simp (length-take, length-drop) (omega arith) in
-    collecting-more _ _ _ _ _ _ _ (loop .inv) (c .before .before .before .before .before .before .before .before .before .before .before .before .before .before .pre .limits .few) taken _ (back .last .1 .1 .1 .1 .0) size (not-false _ (c .before .if1 .left)) (back .ensures)
+    let size : length (found .receive-word .last .1 .1 .1 .1 .0) ≡ f .n - f .r = kept ∙ simp (length-take, length-drop) (omega arith) in
+    collecting-more _ _ _ _ _ _ _ (loop .inv) (start .pre .limits .few) taken _ _ size (not-false _ (c .before .if1 .left)) (found .receive-word .ensures)
 
 same-length-2 : tie.Need-same-length-2 Inv-loop μ-loop
 same-length-2 c = same _ _ _ _ _ _ _ (c .before .loop .inv)

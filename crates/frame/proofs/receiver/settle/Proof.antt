@@ -21,9 +21,11 @@ same-length c = search needs
 
 returns : tie.Need-returns
 returns c =
-    let args = c .before .before .before .before .before .before .before .before .before .args in
-    let bad = sym (c .before .before .before .before .before .before .is-good .ensures) ∙ not-true _ (c .before .before .before .before .before .if1 .taken) in
-    rw (c .refused .ensures, c .before .before .before .fill .ensures) (settled-bad (args .figures) (args .area .now) bad)
+    let filled = c .before .before .before in
+    let bad = filled .before .before in
+    let args = bad .before .before .before .before .args in
+    let told = sym (bad .before .is-good .ensures) ∙ not-true _ (bad .if1 .taken) in
+    rw (c .refused .ensures, filled .fill .ensures) (settled-bad (args .figures) (args .whole .now) told)
 
 sub-end : tie.Need-sub-end
 sub-end c = search needs
@@ -42,8 +44,9 @@ same-length-2 c = search needs
 
 returns-2 : tie.Need-returns-2
 returns-2 c =
-    let good = sym (c .before .before .before .before .before .is-good .ensures) ∙ not-false _ (c .before .before .before .before .if1 .left) in
-    settled-good _ _ (c .before .before .before .before .before .before .before .before .pre) good _ _ (c .before .before .two-at .ensures) (c .two-at2 .ensures)
+    let good = c .before .before .before .before in
+    let told = sym (good .before .is-good .ensures) ∙ not-false _ (good .if1 .left) in
+    settled-good _ _ (good .before .before .before .before .pre) told _ _ (c .before .before .two-at .ensures) (c .two-at2 .ensures)
 
 pub settle-spec : {M : Type 1} → statement M
 settle-spec =

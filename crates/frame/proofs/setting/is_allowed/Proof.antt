@@ -25,16 +25,27 @@ returns-3 : tie.Need-returns-3
 returns-3 c = frame-no _ λ a. omega arith
 
 sub-if4 : tie.Need-sub-if4
-sub-if4 c = omega (arith, (words-yes (c .before .before .before .before .before .before .before .before .args .f) _ _ (c .before .before .before .before .before .before .before .words-of .ensures) (c .before .before .before .before .before .before .is-allowed .ensures) (not-false _ (c .before .before .before .before .before .if1 .left))) .room)
+sub-if4 c =
+    let words = c .before .before .before .before .before in
+    let kept = words-yes (words .before .before .before .args .f) _ _ (words .before .before .words-of .ensures) (words .before .is-allowed .ensures) (not-false _ (words .if1 .left)) in
+    omega (arith, kept .room)
 
 mul-if4 : tie.Need-mul-if4
-mul-if4 c = omega (arith, area-small (c .before .before .before .before .before .before .before .before .before .args .f) (words-yes (c .before .before .before .before .before .before .before .before .before .args .f) _ _ (c .before .before .before .before .before .before .before .before .words-of .ensures) (c .before .before .before .before .before .before .before .is-allowed .ensures) (not-false _ (c .before .before .before .before .before .before .if1 .left))) (omega arith))
+mul-if4 c =
+    let words = c .before .before .before .before .before .before in
+    let f = words .before .before .before .args .f in
+    let kept = words-yes f _ _ (words .before .before .words-of .ensures) (words .before .is-allowed .ensures) (not-false _ (words .if1 .left)) in
+    omega (arith, area-small f kept (omega arith))
 
 returns-4 : tie.Need-returns-4
 returns-4 c = frame-no _ λ a. omega arith
 
 returns-5 : tie.Need-returns-5
-returns-5 c = frame-yes (c .before .before .before .before .before .before .before .before .before .before .args .f) record { words = words-yes (c .before .before .before .before .before .before .before .before .before .before .args .f) _ _ (c .before .before .before .before .before .before .before .before .before .words-of .ensures) (c .before .before .before .before .before .before .before .before .is-allowed .ensures) (not-false _ (c .before .before .before .before .before .before .before .if1 .left)); some = omega arith; few = omega arith; room = omega arith }
+returns-5 c =
+    let words = c .before .before .before .before .before .before .before in
+    let f = words .before .before .before .args .f in
+    let kept = words-yes f _ _ (words .before .before .words-of .ensures) (words .before .is-allowed .ensures) (not-false _ (words .if1 .left)) in
+    frame-yes f record { words = kept; some = omega arith; few = omega arith; room = omega arith }
 
 pub is-allowed-spec : {M : Type 1} → statement M
 is-allowed-spec =

@@ -1,10 +1,10 @@
--- `receiver::hear` meets its contract: the frame is what receiving promises, and the record is what noting that frame's number and
+-- `hear` meets its contract: the frame is what receiving promises, and the record is what noting that frame's number and
 -- sequence number promises.
 -- Assumes nothing.
 use borrow.Author.Needs.{needs}
+use Rattle.link.specs.Promises.{received-and-noted}
 use Rattle.link.proofs.hearing.hear.Statement.{statement}
 use Rattle.link.proofs.hearing.hear.Tie as tie
-use Rattle.link.specs.Receiver.Laws.{heard-so}
 
 receive-requires : tie.Need-receive-requires
 receive-requires c κs = search needs
@@ -19,9 +19,7 @@ same-length : tie.Need-same-length
 same-length c = search needs
 
 returns : tie.Need-returns
-returns c =
-    let got = c .before .before .before .before .receive in
-    heard-so _ _ _ _ _ (got .result) _ _ _ (got .ensures) (c .before .number-of .ensures) (c .note .ensures .outcome)
+returns c = received-and-noted (c .before .before .before .before .receive .ensures) (c .before .number-of .ensures) (c .note .ensures)
 
 pub hear-spec : {M : Type 1} → statement M
 hear-spec = tie.close (tie.spec receive-requires number-of-requires note-requires same-length returns)

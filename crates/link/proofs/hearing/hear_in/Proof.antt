@@ -1,10 +1,10 @@
 -- `hear_in` meets its contract: it is the walk of `Lent.antt` over `hear`, of which it knows only that it meets its own.
 -- Assumes nothing.
-use mathlib.Core.Path.{_≡_, refl}
+use mathlib.Core.Path.{refl}
 use contract.Running.{givenOf, tables, tablesOf}
 use denote.Triple.Spec.{tripleOf}
 use denote.Triple.Table.{entered, cited}
-use Rattle.link.specs.Receiver.{hearOutcome, heard}
+use Rattle.link.specs.Promises.{Hears}
 use Rattle.record.proofs.Record as T
 use Rattle.record.proofs.Record.Laws as T′
 use Rattle.frame.proofs.setting.Framing as F
@@ -36,5 +36,5 @@ hear-in-spec 𝓤 H 𝓜 𝓖 𝓡 =
     let 𝓣 = tables 𝓤 H 𝓜 𝓡 code.env in
     entered 𝓤 H (tripleOf 𝓤 H (𝓖 .A) f.signature (f.spec 𝓤 H (𝓖 .A) (𝓜 .mem) (𝓡 .run))) (𝓣 .C) (𝓣 .Λ) key.name code.function (code.unfolded 𝓤 H 𝓜 𝓡)
     (meets lent framing answer (λ x w. refl) (K.the-type .name) (K.the-type .D) (λ t. t .next) (λ t. t .answer) (K.the-type .to-one)
-    (λ h f slots marks area a next left. hearOutcome a next left ≡ heard h f marks slots area) 𝓤 H (𝓖 .A) (givenOf 𝓤 H 𝓜 𝓖) (tablesOf 𝓤 H 𝓜 𝓣) g-def.name
+    Hears 𝓤 H (𝓖 .A) (givenOf 𝓤 H 𝓜 𝓖) (tablesOf 𝓤 H 𝓜 𝓣) g-def.name
     (cited 𝓤 H (tripleOf 𝓤 H (𝓖 .A) g.signature (g.spec 𝓤 H (𝓖 .A) (𝓜 .mem) (𝓡 .run))) 𝓜 𝓡 code.env g-def.name g-def.routine code.calls-link·hearing·hear (g-thm.met 𝓤 H 𝓜 𝓖 𝓡)))

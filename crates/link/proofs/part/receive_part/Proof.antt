@@ -13,7 +13,7 @@ payload-requires : tie.Need-payload-requires
 payload-requires c κs = search needs
 
 returns : tie.Need-returns
-returns c = rw (c .payload .ensures) (ap handedBack (c .before .before .before .before .receive .ensures))
+returns c = record { outcome = rw (c .payload .ensures .outcome) (ap handedBack (c .before .before .before .before .receive .ensures .outcome)) }
 
 pub receive-part-spec : {M : Type 1} → statement M
 receive-part-spec = tie.close (tie.spec receive-requires payload-requires returns)

@@ -26,13 +26,13 @@ returns c =
     let written = c .before .before in
     let refused = written .before .before in
     let number = refused .before in
-    told-refused _ _ _ _ (number .before .before .before .receive .ensures) _ (number .number-of .ensures) (refused .if1 .taken) (written .put-refusal .ensures)
+    told-refused _ _ _ _ (number .before .before .before .receive .ensures .outcome) _ (number .number-of .ensures) (refused .if1 .taken) (written .put-refusal .ensures)
 
 payload-requires : tie.Need-payload-requires
 payload-requires c κs = search needs
 
 put-frame-requires : tie.Need-put-frame-requires
-put-frame-requires c κs = omega (arith, payload-fits _ _ _ (c .before .payload .ensures))
+put-frame-requires c κs = omega (arith, payload-fits _ _ _ (c .before .payload .ensures .outcome))
 
 same-length-3 : tie.Need-same-length-3
 same-length-3 c = search needs
@@ -46,7 +46,7 @@ returns-2 c =
     let part = written .before .before in
     let accepted = part .before .before .before in
     let number = accepted .before in
-    told-accepted _ _ _ _ (number .before .before .before .receive .ensures) _ (number .number-of .ensures) (accepted .if1 .left) _ (part .payload .ensures) (written .put-frame .ensures)
+    told-accepted _ _ _ _ (number .before .before .before .receive .ensures .outcome) _ (number .number-of .ensures) (accepted .if1 .left) _ (part .payload .ensures .outcome) (written .put-frame .ensures)
 
 pub put-answer-spec : {M : Type 1} → statement M
 put-answer-spec =
