@@ -3,10 +3,10 @@
 use mathlib.Core.Path.{_≡_}
 use mathlib.Core.List.{List, [], _∷_}
 use Prim.Native.Nat.{ℕ, _+_, _*_, _/_, _≤_, _<_}
-use lib.ListN.{length}
+use lib.ListN.{length, getD}
 use lib.Dec.{T}
 use Rattle.algebra.specs.Tests.{at, below}
-use Rattle.algebra.specs.Lists.{tabulate}
+use Rattle.algebra.specs.Lists.{tabulate, joined}
 use Rattle.word.specs.Word.{errors, marked}
 use Rattle.coverage.specs.Runs.{Hit, Clear}
 
@@ -16,6 +16,10 @@ pub record Channel (size : ℕ) (slots marks : List ℕ) : Type 0 where
   pub marks-size : length marks ≡ size
   pub bytes : T (below 256 slots)
   pub zero-or-one : T (below 2 marks)
+
+-- lists one after the other: the words that a line is fed with, and the slots of frames
+abbrev pub endToEnd : List (List ℕ) → List ℕ
+endToEnd lists = joined (length lists) λ i. getD lists i []
 
 -- ---- words in slots
 

@@ -2,18 +2,18 @@
 -- promises of `send` and `receive`.
 -- Assumes nothing.
 use mathlib.Core.Path.{_≡_}
-use mathlib.Core.List.{List, flatten}
+use mathlib.Core.List.{List}
 use Prim.Native.Nat.{ℕ, _+_, _-_, _*_, _/_, _%_, _≤_, _<_}
 use lib.ListN.{length}
 use lib.Dec.{T}
-use Rattle.algebra.specs.Tests.{at, below}
-use Rattle.algebra.specs.Lists.{tabulate}
+use Rattle.algebra.specs.Tests.{below}
+use Rattle.algebra.specs.Lists.{tabulate, part}
 use Rattle.frame.specs.Frame.{areaSize, slotCount, payloadOf, numberOf}
 use Rattle.frame.specs.Promises.{Sends, Receives}
 use Rattle.frame.specs.declared.setting.Framing.{Framing}
 use Rattle.frame.specs.declared.setting.Sent.{Sent}
 use Rattle.frame.specs.declared.setting.Received.{Received}
-use Rattle.coverage.specs.Channel.{Channel, Layout, AllWithin, OneRun}
+use Rattle.coverage.specs.Channel.{Channel, endToEnd, Layout, AllWithin, OneRun}
 use Rattle.coverage.specs.Each.{Each}
 
 -- a frame's message, and whether it fits: a payload of at most A - 4 bytes, and a number of 16 bits
@@ -63,16 +63,13 @@ pub record StreamArrives (f : Framing) (messages : List Message) (slots marks : 
   pub sent : List (List ℕ)
   pub sending : Each (FrameSent f) messages sent
   pub channel : Channel (length messages * slotCount f) slots marks
-  pub run : OneRun (f .depth) (inFrames f (length messages)) (flatten sent) slots marks
+  pub run : OneRun (f .depth) (inFrames f (length messages)) (endToEnd sent) slots marks
 
 -- ---- receiving
 
--- frame i of such slots, and the first frames
-abbrev pub frameAt : Framing → List ℕ → ℕ → List ℕ
-frameAt f slots i = tabulate (slotCount f) λ s. at slots (i * slotCount f + s)
-
+-- the first frames of such slots
 abbrev pub framesOf : Framing → ℕ → (slots marks : List ℕ) → List Frame
-framesOf f many slots marks = tabulate many λ i. record { slots = frameAt f slots i; marks = frameAt f marks i }
+framesOf f many slots marks = tabulate many λ i. record { slots = part (slotCount f) i slots; marks = part (slotCount f) i marks }
 
 -- an answer of `receive` with the area it leaves; it meets the promise for a frame and any lent area of A bytes
 pub record Answer : Type 0 where

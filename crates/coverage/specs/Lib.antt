@@ -5,7 +5,6 @@ pub mod Frame
 pub mod Line
 pub mod Coverage
 pub mod Places
-pub mod EndToEnd
 pub mod RunsCovered
 pub mod Words
 pub mod FrameBack

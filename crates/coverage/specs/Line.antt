@@ -2,7 +2,7 @@
 -- promises of `encode`, of the line's calls and of `decode` and `decode_part`.
 -- Assumes nothing.
 use mathlib.Core.Path.{_≡_}
-use mathlib.Core.List.{List, [], _∷_, _++_, flatten}
+use mathlib.Core.List.{List, [], _∷_, _++_}
 use Prim.Native.Nat.{ℕ, _+_, _-_, _*_, _%_}
 use lib.ListN.{length, take, replicate}
 use lib.Dec.{T}
@@ -21,7 +21,7 @@ use Rattle.interleave.specs.declared.line.Line.{Line}
 use Rattle.interleave.specs.declared.line.Ready.{Ready}
 use Rattle.interleave.specs.declared.line.Sent.{Sent}
 use Rattle.interleave.specs.declared.line.Received.{Received}
-use Rattle.coverage.specs.Channel.{Channel, Layout, AllWithin}
+use Rattle.coverage.specs.Channel.{Channel, endToEnd, Layout, AllWithin}
 use Rattle.coverage.specs.Each.{Each}
 
 -- ---- the setting
@@ -59,7 +59,7 @@ pub record WordSent (l : LineSetting) (message word : List ℕ) : Type 0 where
 
 -- the words end to end from step 0, then zeros until the last word has left
 abbrev pub fed : LineSetting → List (List ℕ) → List ℕ
-fed l words = flatten words ++ replicate (delay l) 0
+fed l words = endToEnd words ++ replicate (delay l) 0
 
 -- calls on a sender one after the other, each `send_step` with a byte or `send_run` over some: the line and memory they start from, the
 -- bytes they take in, and those they give

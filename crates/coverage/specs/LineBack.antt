@@ -3,7 +3,7 @@
 -- Assumes nothing.
 use mathlib.Core.Path.{_≡_, refl, sym, ap, _∙_}
 use mathlib.Core.Bool.{true, false}
-use mathlib.Core.List.{List, [], flatten, append-nil}
+use mathlib.Core.List.{List, [], append-nil}
 use Prim.Native.Nat.{ℕ, _+_, _-_, _*_, _%_, _≤_, _<_}
 use native.Mathlib.Nat.{suc-mul, mul-le-mul-right, mod-lt}
 use native.Mathlib.Omega.{arith}
@@ -11,7 +11,7 @@ use lib.ListN.{length, getD, take, replicate, length-append, length-replicate, L
 use lib.Seq.{ext-getD}
 use lib.Dec.{T}
 use Rattle.algebra.specs.Tests.{at}
-use Rattle.algebra.specs.Lists.{tabulate, tabulated, getD-tabulate, tabulate-same}
+use Rattle.algebra.specs.Lists.{tabulate, tabulated, getD-tabulate, tabulate-same, length-joined, joined-at}
 use Rattle.word.specs.Setting.{messageSize}
 use Rattle.word.specs.Code.{encoded}
 use Rattle.word.specs.Codeword.{isCodeword, codeword}
@@ -21,11 +21,10 @@ use Rattle.interleave.specs.Line.{sent, received}
 use Rattle.interleave.specs.Setting.{memorySize, lineAt, lineRun, line-done}
 use Rattle.interleave.specs.Promises.{ready, blank, freshSender, sendRun, SendRun}
 use Rattle.interleave.specs.Calls.{sender-fresh, receiver-fresh, sender-starts, receiver-starts, fresh-run}
-use Rattle.coverage.specs.Channel.{Channel, wordOf}
+use Rattle.coverage.specs.Channel.{Channel, endToEnd, wordOf}
 use Rattle.coverage.specs.Line.{LineSetting, codeOf, LineAllowed, delay, WordSent, fed, SenderCalls, LineSent, slotOf, onLine, LineArrives, LineReceived, leaving}
 use Rattle.coverage.specs.Coverage.{LineComesBack, NoTwoLinesAlike}
 use Rattle.coverage.specs.Each.{each-length, each-entry}
-use Rattle.coverage.specs.EndToEnd.{Sized, flatten-length, flatten-at}
 use Rattle.coverage.specs.Places.{line-place, line-found}
 use Rattle.coverage.specs.LineCalls.{sender-calls, receiver-calls}
 use Rattle.coverage.specs.Words.{picked, Came, came-in, encoded-code, encoded-message, word-once, word-decoded, part-decoded}
@@ -98,13 +97,13 @@ module _ (l : LineSetting) (ok : LineAllowed l) where
     word-begins : (w : ℕ) → w < length messages → take (messageSize (codeOf l)) (word w) ≡ message w
     word-begins w h = let e = word-sent w h in rw (word-is w h) (encoded-message (codeOf l) (ok .code) (message w) (e .size) (e .bytes))
 
-    sized : Sized n (a .words)
+    sized : (w : ℕ) → w < length (a .words) → length (word w) ≡ n
     sized w h = word-size w (omega (arith, many))
 
     steps : length (fed l (a .words)) ≡ length messages * n + delay l
     steps =
-        length-append (flatten (a .words)) (replicate (delay l) 0)
-        ∙ omega (arith, flatten-length n (a .words) sized, length-replicate {A = ℕ} (delay l) 0, ap (λ (z : ℕ). z * n) many)
+        length-append (endToEnd (a .words)) (replicate (delay l) 0)
+        ∙ omega (arith, length-joined n word (length (a .words)) sized, length-replicate {A = ℕ} (delay l) 0, ap (λ (z : ℕ). z * n) many)
 
     -- the step at which byte p of word w is put in, and those at which it is in its slot and at the receiver's end
     module _ (w p : ℕ) (h : w < length messages) (u : p < n) where
@@ -122,8 +121,8 @@ module _ (l : LineSetting) (ok : LineAllowed l) where
 
       fed-at : at (fed l (a .words)) (w * n + p) ≡ at (word w) p
       fed-at =
-          List·getD-append (flatten (a .words)) (replicate (delay l) 0) 0 (w * n + p) (omega (arith, put-in, flatten-length n (a .words) sized, ap (λ (z : ℕ). z * n) many))
-          ∙ flatten-at n (a .words) sized w p (omega (arith, many)) u
+          List·getD-append (endToEnd (a .words)) (replicate (delay l) 0) 0 (w * n + p) (omega (arith, put-in, length-joined n word (length (a .words)) sized, ap (λ (z : ℕ). z * n) many))
+          ∙ joined-at n word (length (a .words)) sized w p (omega (arith, many)) u
 
     on-line : (w : ℕ) → w < length messages → wordOf (onLine l (length messages)) (a .sent) w ≡ word w
     on-line w h = sym (tabulated (word w) n _ 0 (word-size w h) λ p u.

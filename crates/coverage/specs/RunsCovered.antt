@@ -7,10 +7,12 @@ use mathlib.Core.List.{List, [], _∷_}
 use Prim.Native.Nat.{ℕ, zero, suc, _+_, _*_, _≤_, _<_}
 use native.Mathlib.Decide.{ℕ-discrete}
 use native.Mathlib.Omega.{arith}
+use lib.ListN.{drop}
+use lib.Seq.{getD-take, getD-drop}
 use lib.Dec.{eqb}
 use Rattle.algebra.specs.Tests.{at, oneIf, total, total-same}
 use Rattle.algebra.specs.Sets.{count, one-yes}
-use Rattle.algebra.specs.Lists.{length-tabulate, getD-tabulate, tabulate-same}
+use Rattle.algebra.specs.Lists.{length-tabulate, getD-tabulate, tabulate-same, part}
 use Rattle.word.specs.Word.{errorOf, errorOf-same, errorOf-marked, errors, marked}
 use Rattle.word.specs.Distance.{total-zero}
 use Rattle.interleave.specs.Block.{low, high, in-block}
@@ -18,7 +20,7 @@ use Rattle.frame.specs.Frame.{slotCount}
 use Rattle.frame.specs.declared.setting.Framing.{Framing}
 use Rattle.coverage.specs.Runs.{hit?, runs, Spaced, Near}
 use Rattle.coverage.specs.Channel.{Layout, wordOf, AllWithin, half, OneRun, SomeRuns, MarkedRuns}
-use Rattle.coverage.specs.Frame.{inFrame, inFrames, frameAt}
+use Rattle.coverage.specs.Frame.{inFrame, inFrames}
 use Rattle.coverage.specs.Line.{onLine}
 use Rattle.coverage.specs.Coverage.{FrameRunWithin, LineRunWithin, LineRunsWithin, FrameMarkedRunsWithin, LineMarkedRunsWithin}
 use Rattle.coverage.specs.Places.{block-spaced, block-near, line-spaced, line-near}
@@ -102,11 +104,13 @@ frame-marked-runs-within f = marked-within (inFrame f) (f .depth) _ (block-space
 -- one run in frames that come one after the other leaves every word of frame i within the bound, also where it crosses a border
 module _ (f : Framing) (many i : ℕ) (before : i < many) where
   -- word w of frame i
-  word-of : (slots : List ℕ) (w : ℕ) → w < f .depth → wordOf (inFrames f many) slots (i * f .depth + w) ≡ wordOf (inFrame f) (frameAt f slots i) w
+  word-of : (slots : List ℕ) (w : ℕ) → w < f .depth → wordOf (inFrames f many) slots (i * f .depth + w) ≡ wordOf (inFrame f) (part (slotCount f) i slots) w
   word-of slots w l = tabulate-same (f .n) _ _ λ p u.
-      rw (high i w l, low i w l) (ap (at slots) (omega arith) ∙ sym (getD-tabulate (slotCount f) _ (p * f .depth + w) 0 (in-block p w (f .depth) (f .n) u l)))
+      let s : ℕ = p * f .depth + w in
+      rw (high i w l, low i w l) (ap (at slots) (omega arith) ∙ sym (getD-take (slotCount f) (drop (i * slotCount f) slots) s 0 (in-block p w (f .depth) (f .n) u l) ∙ getD-drop (i * slotCount f) slots s 0))
 
-  pub frames-run-within : (sent slots marks : List ℕ) → OneRun (f .depth) (inFrames f many) sent slots marks → AllWithin (inFrame f) (frameAt f sent i) (frameAt f slots i) (frameAt f marks i)
+  pub frames-run-within : (sent slots marks : List ℕ) → OneRun (f .depth) (inFrames f many) sent slots marks
+      → AllWithin (inFrame f) (part (slotCount f) i sent) (part (slotCount f) i slots) (part (slotCount f) i marks)
   frames-run-within sent slots marks h w l =
       rw (← word-of sent w l, ← word-of slots w l, ← word-of marks w l)
       (run-within (inFrames f many) (f .depth) _ (λ v. block-spaced (f .depth) (f .n) _) (λ v. block-near (f .depth) (f .n) _) sent slots marks h (i * f .depth + w) (in-block i w (f .depth) many before l))

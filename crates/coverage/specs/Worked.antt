@@ -3,14 +3,14 @@
 use mathlib.Core.Path.{_≡_, refl, sym}
 use mathlib.Core.Bool.{Bool, true, false, _&&_, _||_}
 use mathlib.Core.Logic.{inl}
-use mathlib.Core.List.{List, [], _∷_, flatten}
+use mathlib.Core.List.{List, [], _∷_}
 use Prim.Native.Nat.{ℕ, zero, suc, _+_}
 use native.Mathlib.Omega.{arith}
 use lib.Dec.{T, lit≤, eqb, eqb→eq, leb, ltb, leb→le, ltb→lt}
 use lib.ListN.{length, replicate}
 use Rattle.algebra.specs.Xor.{_⊕_}
 use Rattle.algebra.specs.Tests.{at, total, each, each-at, below, first, second}
-use Rattle.algebra.specs.Lists.{tabulate}
+use Rattle.algebra.specs.Lists.{tabulate, joined}
 use Rattle.field.specs.Field.{times, reduce, product, power}
 use Rattle.field.specs.Answers.{isField}
 use Rattle.word.specs.Setting.{allowed}
@@ -25,7 +25,7 @@ use Rattle.rings.specs.Rings.{ring, tri}
 use Rattle.interleave.specs.Line.{period, common}
 use Rattle.frame.specs.FrameExample.{example, slotsOut, slotsIn, sent-example}
 use Rattle.frame.specs.declared.setting.Sent.the-variants.{Done}
-use Rattle.coverage.specs.Channel.{Layout, OnWords, AllWithin, Struck, OneRun}
+use Rattle.coverage.specs.Channel.{endToEnd, Layout, OnWords, AllWithin, Struck, OneRun}
 use Rattle.coverage.specs.Frame.{Message, FrameSent, inFrame, inFrames, Frame, Arrives, StreamArrives}
 use Rattle.coverage.specs.Line.{LineSetting, codeOf, LineAllowed, WordSent, fed, LineSent, slotOf, onLine, LineArrives}
 use Rattle.coverage.specs.RunsCovered.{line-run-within}
@@ -95,12 +95,12 @@ abbrev stream : List ℕ
 stream = 0 ∷ 0 ∷ 65 ∷ 2 ∷ 1 ∷ 1 ∷ 217 ∷ 13 ∷ 153 ∷ 9 ∷ 9 ∷ 0 ∷ 65 ∷ 2 ∷ 1 ∷ 1 ∷ 217 ∷ 13 ∷ 153 ∷ 14 ∷ []
 
 pub frames-arrive : StreamArrives example (message ∷ message ∷ []) stream (replicate 20 0)
-unfolding below flatten each
+unfolding below joined each
 frames-arrive = record {
   sent = slotsOut ∷ slotsOut ∷ [];
   sending = (frame-sent, (frame-sent, tt));
   channel = record { slots-size = refl; marks-size = refl; bytes = tt; zero-or-one = tt };
-  run = record { start = 9; size = 2; short = lit≤ tt; alone = struck-by (inFrames example 2) 9 2 (flatten (slotsOut ∷ slotsOut ∷ [])) stream (replicate 20 0) tt };
+  run = record { start = 9; size = 2; short = lit≤ tt; alone = struck-by (inFrames example 2) 9 2 (endToEnd (slotsOut ∷ slotsOut ∷ [])) stream (replicate 20 0) tt };
 }
 
 -- ---- a line of I = 2 and M = 2 with two words of n = 4 and r = 2: a run of I·t = 2 slots strikes both words, and the four slots that carry
@@ -150,7 +150,7 @@ word-sent message word size bytes e = record {
 }
 
 sending : LineSent line (fed line words) sent
-unfolding flatten answer memory position lineOut lineKept ring tri period common tabulate
+unfolding joined answer memory position lineOut lineKept ring tri period common tabulate
 sending = line-sent line line-allowed (fed line words)
 
 pub line-run : OneRun 2 (onLine line 2) sent slots marks
@@ -158,7 +158,7 @@ unfolding each slotOf
 line-run = record { start = 4; size = 2; short = lit≤ tt; alone = struck-by (onLine line 2) 4 2 sent slots marks tt }
 
 pub line-arrives : LineArrives line messages slots marks
-unfolding below flatten
+unfolding below joined
 line-arrives = record {
   words = words;
   encoding = (word-sent _ _ refl tt encoded-0, (word-sent _ _ refl tt encoded-1, tt));
