@@ -26,7 +26,7 @@ FramesComeBack =
 abbrev pub LineComesBack : Type 0
 LineComesBack =
     (l : LineSetting) → LineAllowed l → (messages : List (List ℕ)) (slots marks bytes flags : List ℕ) → LineArrives l messages slots marks → LineReceived l slots marks bytes flags
-    → (w : ℕ) → w < length messages → WordComesBack l (getD messages w []) (leaving l flags w) (leaving l bytes w)
+    → (w : ℕ) → w < length messages → WordComesBack l (getD messages w []) (leaving l bytes w) (leaving l flags w)
 
 -- ---- One unmarked run of up to depth · t slots, alone, is within it wherever it falls: in a frame, ..
 

@@ -129,6 +129,6 @@ pub record Accepted (message : List ℕ) (d : Decoded) (given : List ℕ) : Type
   pub as-sent : given ≡ message
 
 -- and it is so by every answer that meets the promise of `decode`, whose word begins with the message, or that of `decode_part` into any k bytes
-pub record WordComesBack (l : LineSetting) (message marks received : List ℕ) : Type 0 where
+pub record WordComesBack (l : LineSetting) (message received marks : List ℕ) : Type 0 where
   pub in-place : (d : Decoded) (word : List ℕ) → Decodes (codeOf l) received marks d word → Accepted message d (take (messageSize (codeOf l)) word)
   pub to-part : (d : Decoded) (lent part : List ℕ) → length lent ≡ messageSize (codeOf l) → DecodesPart (codeOf l) received marks lent d part → Accepted message d part
