@@ -1,6 +1,7 @@
 -- Messages sent over a cross line come back 108 frames later, as long as no inner word has more than two wrong bytes (document 01, Cross line).
 -- All of it speaks of the promises of the line's calls. Assumes nothing.
 use mathlib.Core.Path.{_≡_, refl, sym, ap, ap₂, _∙_}
+use mathlib.Core.Bool.{true, false}
 use mathlib.Core.List.{List}
 use Prim.Native.Nat.{ℕ, _+_, _-_, _*_, _≤_, _<_}
 use native.Mathlib.Decide.{decLt}
@@ -9,17 +10,17 @@ use lib.Dec.{T, lit<}
 use lib.ListN.{length, take, replicate, length-replicate, getD-replicate}
 use lib.Seq.{ext-getD, length-take-le}
 use Rattle.algebra.specs.Tests.{at, below, below-at, below-all}
-use Rattle.algebra.specs.Lists.{length-tabulate}
 use Rattle.word.specs.Word.{errors, marked}
 use Rattle.word.specs.Codeword.{isCodeword, codeword}
 use Rattle.word.specs.Distance.{total-zero, errors-self, bits-self}
 use Rattle.word.specs.Code.{encoded}
-use Rattle.word.specs.Answers.{DecodeOutcome, decodeOutcome, noFigures, figures}
+use Rattle.word.specs.Answers.{decodeOutcome, noFigures, figures}
 use Rattle.word.specs.declared.Figures.{Figures}
 use Rattle.word.specs.declared.Decoded.the-variants.{Done}
-use Rattle.cross.specs.Cross.{outerCode, innerCode, outerWord, due, opened, passedOn, markOf, orZeros, closed, received}
-use Rattle.cross.specs.Codes.{outer-allowed, inner-allowed, outer-encoded, inner-encoded}
-use Rattle.cross.specs.Calls.{SenderCalls, dueSent, sent-held, sends, ReceiverCalls, dueBytes, dueMarks, bytes-held, marks-held, receives}
+use Rattle.cross.specs.Cross.{outerCode, innerCode, outerWord, passedOn, markOf, marksOf, closed, received}
+use Rattle.cross.specs.Codes.{outer-allowed, inner-allowed, outer-encoded, inner-encoded, inner-given, outer-given}
+use Rattle.cross.specs.Frames.{due-size}
+use Rattle.cross.specs.Calls.{SenderCalls, dueSent, sent-held, sends, ReceiverCalls, dueBytes, dueMarks, seen, receives}
 use Rattle.cross.specs.declared.position.Received.{Received}
 use Rattle.coverage.specs.Words.{encoded-code, encoded-size, encoded-message, Came, part-given}
 
@@ -72,10 +73,6 @@ module _ (many : ℕ) (messages words : ℕ → List ℕ) (a : CrossSent many me
     outer-byte : (i : ℕ) → at (outerWord (messages F)) i < 256
     outer-byte i = rw outer (below-at 256 _ (codeword outerCode _ outer-code .small) i (lit< tt))
 
-    due-size : length (dueSent messages F) ≡ 28
-    unfolding due
-    due-size = length-tabulate 28 _
-
   due-byte : (F i : ℕ) → F < many → i < 28 → at (dueSent messages F) i < 256
   due-byte F i h l =
       let held = sent-held messages F i l in
@@ -85,17 +82,20 @@ module _ (many : ℕ) (messages words : ℕ → List ℕ) (a : CrossSent many me
       ]
 
   module _ (F : ℕ) (h : F < many) where
+    sized : length (dueSent messages F) ≡ 28
+    sized = due-size false 0 0 (λ G. outerWord (messages G)) F
+
     due-bytes : T (below 256 (dueSent messages F))
-    due-bytes = below-all 256 (dueSent messages F) λ i l. due-byte F i h (rw (due-size F h) at l)
+    due-bytes = below-all 256 (dueSent messages F) λ i l. due-byte F i h (rw sized at l)
 
     inner : words F ≡ encoded innerCode (dueSent messages F)
-    inner = sends many messages words (a .calls) F h .1 ∙ inner-encoded (dueSent messages F) (a .calls .over F) (due-size F h) (a .calls .over-size F h) due-bytes
+    inner = sends many messages words (a .calls) F h .1 ∙ inner-encoded (dueSent messages F) (a .calls .over F) sized (a .calls .over-size F h) due-bytes
 
     inner-code : T (isCodeword innerCode (words F))
-    inner-code = rw inner (encoded-code innerCode inner-allowed (dueSent messages F) (due-size F h) due-bytes)
+    inner-code = rw inner (encoded-code innerCode inner-allowed (dueSent messages F) sized due-bytes)
 
     front : take 28 (words F) ≡ dueSent messages F
-    front = rw inner (encoded-message innerCode inner-allowed (dueSent messages F) (due-size F h) due-bytes)
+    front = rw inner (encoded-message innerCode inner-allowed (dueSent messages F) sized due-bytes)
 
 -- words that came undamaged are words that came
 pub undamaged : (many : ℕ) (messages words : ℕ → List ℕ) → CrossSent many messages words → CrossArrives many messages words
@@ -121,22 +121,18 @@ module _ (many : ℕ) (messages came : ℕ → List ℕ) (a : CrossArrives many 
       zero-or-one = zeros-below 32;
     }
 
-    restored : decodeOutcome (Done (figures (replicate 32 0) (came F) (a .words F))) (take 28 (a .words F)) ≡ opened (came F)
-    unfolding opened
-    restored = part-given innerCode inner-allowed (replicate 32 0) (came F) (a .words F) came-so (take 28 (came F)) (length-take-le 28 (came F) (omega arith)) .outcome
+    given-on : (0 ≡ markOf (came F)) × (take 28 (a .words F) ≡ passedOn (came F))
+    given-on = inner-given (came F) _ _ (part-given innerCode inner-allowed (replicate 32 0) (came F) (a .words F) came-so (take 28 (came F)) (length-take-le 28 (came F) (omega arith)))
 
     passed-on : passedOn (came F) ≡ dueSent messages F
-    passed-on = sym (ap (λ (o : DecodeOutcome). o .word) restored) ∙ front many messages (a .words) (a .sent) F h
-
-    unmarked : markOf (came F) ≡ 0
-    unmarked = rw (← restored)
+    passed-on = sym (given-on .1) ∙ front many messages (a .words) (a .sent) F h
 
   module _ (answers : ℕ → Received) (back : ℕ → List ℕ) (r : ReceiverCalls many came answers back) (F : ℕ) (h : F + 108 < many) where
     -- byte i of the message's outer word left with frame F + 4i, and is due with frame F + 108
     byte-back : (i : ℕ) → i < 28 → at (dueBytes came (F + 108)) i ≡ at (encoded outerCode (messages F)) i
     byte-back i l =
         let k : F + 4 * i < many = omega arith in
-        bytes-held came (F + 108) i l .late (F + 4 * i) (omega arith)
+        seen came F i l .0
         ∙ ap (λ (w : List ℕ). at w i) (passed-on (F + 4 * i) k (r .word-size (F + 4 * i) k))
         ∙ sent-held messages (F + 4 * i) i l .late F refl
         ∙ ap (λ (w : List ℕ). at w i) (outer many messages (a .words) (a .sent) F (omega arith))
@@ -144,22 +140,22 @@ module _ (many : ℕ) (messages came : ℕ → List ℕ) (a : CrossArrives many 
     mark-back : (i : ℕ) → i < 28 → at (dueMarks came (F + 108)) i ≡ 0
     mark-back i l =
         let k : F + 4 * i < many = omega arith in
-        marks-held came (F + 108) i l .late (F + 4 * i) (omega arith)
-        ∙ getD-replicate 28 i (markOf (came (F + 4 * i))) 0 l
-        ∙ unmarked (F + 4 * i) k (r .word-size (F + 4 * i) k)
+        seen came F i l .1 ∙ sym (given-on (F + 4 * i) k (r .word-size (F + 4 * i) k) .0)
 
-    lengths : (length (dueBytes came (F + 108)) ≡ 28) × (length (dueMarks came (F + 108)) ≡ 28)
-    unfolding due
-    lengths = (length-tabulate 28 _, length-tabulate 28 _)
+    bytes-size : length (dueBytes came (F + 108)) ≡ 28
+    bytes-size = due-size true 108 0 (λ G. passedOn (came G)) (F + 108)
+
+    marks-size : length (dueMarks came (F + 108)) ≡ 28
+    marks-size = due-size true 108 1 (λ G. marksOf (came G)) (F + 108)
 
     word-size : length (encoded outerCode (messages F)) ≡ 28
     word-size = encoded-size outerCode outer-allowed (messages F) (size many messages (a .words) (a .sent) F (omega arith)) (a .sent .bytes F (omega arith))
 
     bytes-back : dueBytes came (F + 108) ≡ encoded outerCode (messages F)
-    bytes-back = ext-getD 0 _ _ (lengths .0 ∙ sym word-size) λ i l. byte-back i (rw (lengths .0) at l)
+    bytes-back = ext-getD 0 _ _ (bytes-size ∙ sym word-size) λ i l. byte-back i (rw bytes-size at l)
 
     marks-back : dueMarks came (F + 108) ≡ replicate 28 0
-    marks-back = ext-getD 0 _ _ (lengths .1 ∙ sym (length-replicate {A = ℕ} 28 0)) λ i l. let k = rw (lengths .1) at l in mark-back i k ∙ sym (zeros-at 28 i k)
+    marks-back = ext-getD 0 _ _ (marks-size ∙ sym (length-replicate {A = ℕ} 28 0)) λ i l. let k = rw marks-size at l in mark-back i k ∙ sym (zeros-at 28 i k)
 
     clean : Came outerCode (encoded outerCode (messages F)) (encoded outerCode (messages F)) (replicate 28 0)
     clean = record {
@@ -171,10 +167,9 @@ module _ (many : ℕ) (messages came : ℕ → List ℕ) (a : CrossArrives many 
       zero-or-one = zeros-below 28;
     }
 
-    closing : closed (replicate 28 0) (encoded outerCode (messages F)) (r .given (F + 108)) ≡ decodeOutcome (Done noFigures) (messages F)
-    unfolding closed
+    closing : closed (encoded outerCode (messages F)) (replicate 28 0) (r .given (F + 108)) ≡ decodeOutcome (Done noFigures) (messages F)
     closing =
-        sym (ap orZeros (part-given outerCode outer-allowed (replicate 28 0) (encoded outerCode (messages F)) (encoded outerCode (messages F)) clean (r .given (F + 108)) (r .given-size (F + 108) h) .outcome))
+        sym (outer-given _ _ _ _ _ (part-given outerCode outer-allowed (replicate 28 0) (encoded outerCode (messages F)) (encoded outerCode (messages F)) clean (r .given (F + 108)) (r .given-size (F + 108) h)))
         ∙ ap₂ (λ (f : Figures) (w : List ℕ). decodeOutcome (Done f) w) (no-figures (encoded outerCode (messages F)) word-size) (encoded-message outerCode outer-allowed (messages F) (size many messages (a .words) (a .sent) F (omega arith)) (a .sent .bytes F (omega arith)))
 
   -- Message F comes back with frame F + 108.

@@ -1,18 +1,18 @@
 -- The cross line (document 01, Cross line): its two codes, its delays, its positions, and what becomes of a frame, both ways.
 -- Assumes nothing.
-use mathlib.Core.Bool.{Bool, true, false}
+use mathlib.Core.Bool.{Bool}
 use mathlib.Core.List.{List}
-use Prim.Native.Nat.{ℕ, zero, suc, _+_, _-_}
+use Prim.Native.Nat.{ℕ, _+_, _*_, _%_}
 use native.Mathlib.Decide.{ℕ-discrete, decLt}
 use lib.ListN.{length, replicate, take}
 use Rattle.algebra.specs.Sets.{put}
 use Rattle.algebra.specs.Tests.{at, below}
 use Rattle.algebra.specs.Lists.{tabulate}
 use Rattle.algebra.specs.Refusal.{need, first, ifZero, passes}
-use Rattle.rings.specs.Rings.{ringOut, ringKept}
+use Rattle.rings.specs.Rings.{order}
+use Rattle.rings.specs.Run.{Ran, run}
 use Rattle.word.specs.Answers.{DecodeOutcome, refused, encoding, decodingPart}
 use Rattle.word.specs.declared.Setting.{Setting}
-use Rattle.cross.specs.declared.codes.Found.{Found}
 use Rattle.cross.specs.declared.position.Received.{Received}
 
 -- ---- the two codes: symbols are bytes, r = 4, b = 0
@@ -32,30 +32,24 @@ outerWord message = encoding outerCode message (replicate 28 0) .word
 unfoldable pub innerWord : List ℕ → List ℕ → List ℕ
 innerWord bytes lent = encoding innerCode bytes lent .word
 
--- ---- the delays: a unit is 4 frames, and byte i has the ring of i units in the sender, in the receiver that of 27 - i
-
-abbrev pub unitsOf : Bool → ℕ → ℕ
-unitsOf false i = i
-unitsOf true i = 27 - i
-
--- the memory once the rings of bytes 0 to i - 1 have turned at position q: each byte has gone into its ring
-unfoldable pub turned : (ℕ → ℕ) → ℕ → List ℕ → List ℕ → ℕ → List ℕ
-turned units q m bytes zero = m
-turned units q m bytes (suc i) = ringKept 4 (units i) q (turned units q m bytes i) (at bytes i)
-
--- the 28 bytes that are due: what came out of each ring, or byte i itself where its ring has no units
-unfoldable pub due : (ℕ → ℕ) → ℕ → List ℕ → List ℕ → List ℕ
-due units q m bytes = tabulate 28 λ i. ringOut 4 (units i) q (turned units q m bytes i) (at bytes i)
-
--- and the memory after the frame
-abbrev pub stored : (ℕ → ℕ) → ℕ → List ℕ → List ℕ → List ℕ
-stored units q m bytes = turned units q m bytes 28
-
--- ---- the position: a sender's starts again at 0, a receiver's runs through 0 to 107 once, so that it says also whether a message is due
+-- ---- the delays: those of a delay line of 28 branches and unit 4, a frame being 28 steps of it
 
 -- after so many frames every ring is where it was: 4 times the least number that each of 1 to 27 divides
 abbrev pub cycle : ℕ
 cycle = 321253732800
+
+-- the steps of a frame at position p: each of its bytes goes into its ring, byte i into that of i units, or back at the receiver of 27 - i
+unfoldable pub turned : Bool → ℕ → List ℕ → List ℕ → Ran
+turned back p m bytes = run (order back 28) 28 4 (cycle * 28) (p % cycle * 28) m (tabulate 28 (at bytes))
+
+-- the 28 bytes that are due, and the memory after the frame
+abbrev pub due : Bool → ℕ → List ℕ → List ℕ → List ℕ
+due back p m bytes = turned back p m bytes .out
+
+abbrev pub stored : Bool → ℕ → List ℕ → List ℕ → List ℕ
+stored back p m bytes = turned back p m bytes .memory
+
+-- ---- the position: a sender's starts again at 0, a receiver's runs through 0 to 107 once, so that it says also whether a message is due
 
 -- the position after p: `once` positions come once only, and after the last of all comes the first of the others
 unfoldable pub after : ℕ → ℕ → ℕ
@@ -82,17 +76,13 @@ abbrev pub orZeros : DecodeOutcome → DecodeOutcome
 orZeros o = ifZero (o .number) o (refused 4 (replicate 24 0))
 
 unfoldable pub closed : List ℕ → List ℕ → List ℕ → DecodeOutcome
-closed marks bytes message = orZeros (decodingPart outerCode bytes marks message)
+closed bytes marks message = orZeros (decodingPart outerCode bytes marks message)
 
--- what a frame that is taken is answered: 7 for the first 108, whatever their words are
-unfoldable pub settled : ℕ → List ℕ → List ℕ → List ℕ → List ℕ → DecodeOutcome
-settled p m ms word message =
-    put (decLt p 108) (refused 7 message) (closed (due (unitsOf true) p ms (marksOf word)) (due (unitsOf true) p m (passedOn word)) message)
+-- what a frame is answered that is taken at position p: 7 for the first 108, whatever their words are
+unfoldable pub settled : ℕ → List ℕ → List ℕ → List ℕ → DecodeOutcome
+settled p bytes marks message = put (decLt p 108) (refused 7 message) (closed bytes marks message)
 
 -- an answer of the code in this paper's terms, with the message bytes it leaves
-abbrev pub found : Found → List ℕ → DecodeOutcome
-found r message = record { number = r .answer; figures = r .figures; word = message }
-
 abbrev pub received : Received → List ℕ → DecodeOutcome
 received r message = record { number = r .answer; figures = r .figures; word = message }
 
@@ -101,6 +91,9 @@ received r message = record { number = r .answer; figures = r .figures; word = m
 unfoldable pub sendRefusal : ℕ → ℕ → ℕ → ℕ → ℕ
 sendRefusal p memory message word =
     need (decLt p cycle) 1 (need (ℕ-discrete memory 1512) 2 (need (ℕ-discrete message 24) 2 (need (ℕ-discrete word 32) 2 0)))
+
+abbrev pub sizeRefusal : ℕ → ℕ
+sizeRefusal memory = need (ℕ-discrete memory 1512) 2 0
 
 unfoldable pub freshRefusal : ℕ → ℕ → ℕ
 freshRefusal memory held = need (ℕ-discrete memory 1512) 2 (need (ℕ-discrete held 1512) 2 0)

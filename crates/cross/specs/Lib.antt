@@ -1,9 +1,6 @@
 pub mod Cross
 pub mod Promises
-pub mod Numbers
 pub mod Checks
-pub mod Turning
-pub mod Words
 pub mod Codes
 pub mod Positions
 pub mod Frames

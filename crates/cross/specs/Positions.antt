@@ -3,14 +3,13 @@
 -- Assumes nothing.
 use mathlib.Core.Path.{_≡_, refl, sym, ap, _∙_}
 use Prim.Native.Nat.{ℕ, zero, suc, _+_, _*_, _/_, _%_, _≤_, _<_, _∣_}
-use native.Mathlib.Nat.{not-suc-le-zero, dvd-of-mod-eq-zero, mul-dvd-mul-right, mul-div-cancel', mul-add-mod-self-left, suc-mod}
+use native.Mathlib.Nat.{not-suc-le-zero, dvd-of-mod-eq-zero, mul-div-cancel', mul-add-mod-self-left, suc-mod}
 use native.Mathlib.Numerals.{add-one}
 use native.Mathlib.Decide.{ℕ-discrete}
 use native.Mathlib.Omega.{arith}
 use lib.Dec.{eqb, eqb→eq}
 use Rattle.algebra.specs.Sets.{put-elim, put-no}
 use Rattle.algebra.specs.Tests.{each, each-at}
-use Rattle.rings.specs.Rings.{tri, ring}
 use Rattle.cross.specs.Cross.{cycle, after}
 
 -- the position after so many frames
@@ -62,15 +61,10 @@ after-rest N once p F d e =
     (λ g. whole-turns N once d ∙ ap (λ (z : ℕ). z % N) (sym g) ∙ next-rest N p F e)
     λ g. next-rest N p F e
 
-rest-after : (N once F : ℕ) → N ∣ cycle → positionAfter once F % N ≡ F % N
+pub rest-after : (N once F : ℕ) → N ∣ cycle → positionAfter once F % N ≡ F % N
 unfolding positionAfter
 rest-after N once zero d = refl
 rest-after N once (suc F) d = after-rest N once (positionAfter once F) F d (rest-after N once F d)
-
--- the position stands for the frame number
-pub ring-after : (once F k : ℕ) → 0 < k → k < 28 → ring 4 k (positionAfter once F) ≡ ring 4 k F
-unfolding ring
-ring-after once F k h l = ap (λ (z : ℕ). tri k * 4 + z) (rest-after (k * 4) once F (mul-dvd-mul-right k (common-all k h l) 4))
 
 -- ---- the first 108 frames of a receiver
 

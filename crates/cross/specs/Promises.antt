@@ -1,14 +1,14 @@
--- What each call on a cross line promises of its answer and of all that was lent to it, and that no second answer meets it (document 01, What each call owes its caller).
+-- What each call on a cross line answers, and leaves in all that was lent to it (document 01, Cross line and Numbers a call can answer), and that
+-- no second answer meets its promise (What each call owes its caller).
 -- Assumes nothing.
-use mathlib.Core.Path.{_≡_, sym, ap, ap₂, _∙_}
+use mathlib.Core.Path.{_≡_, sym, ap, _∙_}
 use mathlib.Core.Bool.{true, false}
 use mathlib.Core.List.{List}
 use Prim.Native.Nat.{ℕ}
-use native.Mathlib.Decide.{ℕ-discrete}
 use lib.ListN.{length, replicate}
-use Rattle.algebra.specs.Refusal.{need, ifZero}
-use Rattle.word.specs.Answers.{DecodeOutcome, refused}
-use Rattle.cross.specs.Cross.{outerWord, innerWord, unitsOf, due, stored, after, passedOn, marksOf, settled, received, sendRefusal, freshRefusal, receiveRefusal}
+use Rattle.algebra.specs.Refusal.{ifZero}
+use Rattle.word.specs.Answers.{noFigures}
+use Rattle.cross.specs.Cross.{outerWord, innerWord, due, stored, after, passedOn, marksOf, settled, sizeRefusal, sendRefusal, freshRefusal, receiveRefusal}
 use Rattle.cross.specs.declared.position.Ready.{Ready}
 use Rattle.cross.specs.declared.position.Received.{Received}
 
@@ -18,54 +18,68 @@ ready k p = record { answer = k; position = p }
 
 -- ---- a fresh line: position 0, the bytes zeros, the marks 1
 
-abbrev pub freshNumber : ℕ → ℕ
-freshNumber size = need (ℕ-discrete size 1512) 2 0
+abbrev pub freshSender : List ℕ → Ready × List ℕ
+freshSender m =
+    let k = sizeRefusal (length m) in
+    ifZero k (ready 0 0, replicate 1512 0) (ready k 0, m)
 
 pub record FreshSender (m : List ℕ) (r : Ready) (left : List ℕ) : Type 0 where
-  pub answer : r ≡ ready (freshNumber (length m)) 0
-  pub memory : left ≡ ifZero (freshNumber (length m)) (replicate 1512 0) m
+  pub outcome : (r, left) ≡ freshSender m
 
-pub fresh-sender-once : (m : List ℕ) (r s : Ready) (x y : List ℕ) → FreshSender m r x → FreshSender m s y → (r ≡ s) × (x ≡ y)
-fresh-sender-once m r s x y p q = (p .answer ∙ sym (q .answer), p .memory ∙ sym (q .memory))
+abbrev pub freshReceiver : List ℕ → List ℕ → Ready × List ℕ × List ℕ
+freshReceiver m ms =
+    let k = freshRefusal (length m) (length ms) in
+    ifZero k (ready 0 0, replicate 1512 0, replicate 1512 1) (ready k 0, m, ms)
 
 pub record FreshReceiver (m ms : List ℕ) (r : Ready) (left leftMarks : List ℕ) : Type 0 where
-  pub answer : r ≡ ready (freshRefusal (length m) (length ms)) 0
-  pub memory : left ≡ ifZero (freshRefusal (length m) (length ms)) (replicate 1512 0) m
-  pub held : leftMarks ≡ ifZero (freshRefusal (length m) (length ms)) (replicate 1512 1) ms
-
-pub fresh-receiver-once : (m ms : List ℕ) (r s : Ready) (x y u v : List ℕ) → FreshReceiver m ms r x u → FreshReceiver m ms s y v → (r ≡ s) × (x ≡ y) × (u ≡ v)
-fresh-receiver-once m ms r s x y u v p q = (p .answer ∙ sym (q .answer), p .memory ∙ sym (q .memory), p .held ∙ sym (q .held))
+  pub outcome : (r, left, leftMarks) ≡ freshReceiver m ms
 
 -- ---- a frame sent: at position p, with memory m, a message and a lent word
 
-abbrev pub refusedSend : ℕ → List ℕ → List ℕ → List ℕ → ℕ
-refusedSend p m message word = sendRefusal p (length m) (length message) (length word)
+abbrev pub sending : ℕ → List ℕ → List ℕ → List ℕ → Ready × List ℕ × List ℕ
+sending p m message word =
+    let k = sendRefusal p (length m) (length message) (length word) in
+    let outer = outerWord message in
+    ifZero k (ready 0 (after 0 p), stored false p m outer, innerWord (due false p m outer) word) (ready k p, m, word)
 
 pub record Send (p : ℕ) (m message word : List ℕ) (r : Ready) (left out : List ℕ) : Type 0 where
-  pub answer : r ≡ ifZero (refusedSend p m message word) (ready 0 (after 0 p)) (ready (refusedSend p m message word) p)
-  pub memory : left ≡ ifZero (refusedSend p m message word) (stored (unitsOf false) p m (outerWord message)) m
-  pub sent : out ≡ ifZero (refusedSend p m message word) (innerWord (due (unitsOf false) p m (outerWord message)) word) word
-
-pub send-once : (p : ℕ) (m message word : List ℕ) (r s : Ready) (x y u v : List ℕ) → Send p m message word r x u → Send p m message word s y v → (r ≡ s) × (x ≡ y) × (u ≡ v)
-send-once p m message word r s x y u v a b = (a .answer ∙ sym (b .answer), a .memory ∙ sym (b .memory), a .sent ∙ sym (b .sent))
+  pub outcome : (r, left, out) ≡ sending p m message word
 
 -- ---- a frame received: at position p, with the memories m and ms, an inner word and the lent message bytes
 
-abbrev pub refusedReceive : ℕ → List ℕ → List ℕ → List ℕ → List ℕ → ℕ
-refusedReceive p m ms word message = receiveRefusal p (length m) ms (length word) (length message)
+abbrev pub receiving : ℕ → List ℕ → List ℕ → List ℕ → List ℕ → Received × List ℕ × List ℕ × List ℕ
+receiving p m ms word message =
+    let k = receiveRefusal p (length m) ms (length word) (length message) in
+    let o = settled p (due true p m (passedOn word)) (due true p ms (marksOf word)) message in
+    ifZero k
+    (record { answer = o .number; figures = o .figures; position = after 108 p }, stored true p m (passedOn word), stored true p ms (marksOf word), o .word)
+    (record { answer = k; figures = noFigures; position = p }, m, ms, message)
 
 pub record Receive (p : ℕ) (m ms word message : List ℕ) (r : Received) (left leftMarks out : List ℕ) : Type 0 where
-  pub answer : received r out ≡ ifZero (refusedReceive p m ms word message) (settled p m ms word message) (refused (refusedReceive p m ms word message) message)
-  pub position : r .position ≡ ifZero (refusedReceive p m ms word message) (after 108 p) p
-  pub memory : left ≡ ifZero (refusedReceive p m ms word message) (stored (unitsOf true) p m (passedOn word)) m
-  pub held : leftMarks ≡ ifZero (refusedReceive p m ms word message) (stored (unitsOf true) p ms (marksOf word)) ms
+  pub outcome : (r, left, leftMarks, out) ≡ receiving p m ms word message
 
--- answer, figures and position make the whole of what is returned
-same-received : (r s : Received) (x y : List ℕ) → received r x ≡ received s y → r .position ≡ s .position → r ≡ s
-same-received r s x y e g = ap₂ (λ (o : DecodeOutcome) (p : ℕ). record { answer = o .number; figures = o .figures; position = p }) e g
+-- ---- no second answer
+
+module _ {A : Type 0} {r s : A} {x y : List ℕ} where
+  pub two : _≡_ {A = A × List ℕ} (r, x) (s, y) → (r ≡ s) × (x ≡ y)
+  two e = (ap (λ (z : A × List ℕ). z .0) e, ap (λ (z : A × List ℕ). z .1) e)
+
+  module _ {u v : List ℕ} where
+    pub three : _≡_ {A = A × List ℕ × List ℕ} (r, x, u) (s, y, v) → (r ≡ s) × (x ≡ y) × (u ≡ v)
+    three e = (ap (λ (z : A × List ℕ × List ℕ). z .0) e, ap (λ (z : A × List ℕ × List ℕ). z .1) e, ap (λ (z : A × List ℕ × List ℕ). z .2) e)
+
+    pub four : {c d : List ℕ} → _≡_ {A = A × List ℕ × List ℕ × List ℕ} (r, x, u, c) (s, y, v, d) → (r ≡ s) × (x ≡ y) × (u ≡ v) × (c ≡ d)
+    four e = (ap (λ (z : A × List ℕ × List ℕ × List ℕ). z .0) e, ap (λ (z : A × List ℕ × List ℕ × List ℕ). z .1) e, ap (λ (z : A × List ℕ × List ℕ × List ℕ). z .2) e, ap (λ (z : A × List ℕ × List ℕ × List ℕ). z .3) e)
+
+pub fresh-sender-once : (m : List ℕ) (r s : Ready) (x y : List ℕ) → FreshSender m r x → FreshSender m s y → (r ≡ s) × (x ≡ y)
+fresh-sender-once m r s x y p q = two (p .outcome ∙ sym (q .outcome))
+
+pub fresh-receiver-once : (m ms : List ℕ) (r s : Ready) (x y u v : List ℕ) → FreshReceiver m ms r x u → FreshReceiver m ms s y v → (r ≡ s) × (x ≡ y) × (u ≡ v)
+fresh-receiver-once m ms r s x y u v p q = three (p .outcome ∙ sym (q .outcome))
+
+pub send-once : (p : ℕ) (m message word : List ℕ) (r s : Ready) (x y u v : List ℕ) → Send p m message word r x u → Send p m message word s y v → (r ≡ s) × (x ≡ y) × (u ≡ v)
+send-once p m message word r s x y u v a b = three (a .outcome ∙ sym (b .outcome))
 
 pub receive-once : (p : ℕ) (m ms word message : List ℕ) (r s : Received) (x y u v c d : List ℕ) → Receive p m ms word message r x u c → Receive p m ms word message s y v d
     → (r ≡ s) × (x ≡ y) × (u ≡ v) × (c ≡ d)
-receive-once p m ms word message r s x y u v c d a b =
-    let e : received r c ≡ received s d = a .answer ∙ sym (b .answer) in
-    (same-received r s c d e (a .position ∙ sym (b .position)), a .memory ∙ sym (b .memory), a .held ∙ sym (b .held), ap (λ (o : DecodeOutcome). o .word) e)
+receive-once p m ms word message r s x y u v c d a b = four (a .outcome ∙ sym (b .outcome))

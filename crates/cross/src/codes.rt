@@ -1,38 +1,23 @@
-// The two codes of a cross line, as its sender and its receiver use them.
+// The two codes of a cross line: their settings, and what its receiver makes of an inner and of an outer word.
 ghost use mathlib.Core.Path.{_≡_};
+ghost use Prim.Native.Nat.{_+_, _<_};
 ghost use lib.ListN.{length, replicate};
 ghost use Rattle.algebra.specs.Refusal.{ifZero};
 ghost use Rattle.word.specs.Answers.{numberOf};
-ghost use Rattle.cross.specs.Cross.{outerCode, innerCode, outerWord, innerWord, passedOn, markOf, closed, found};
+ghost use Rattle.cross.specs.Cross.{outerCode, innerCode, cycle, after, passedOn, markOf, received, settled};
+use crate::position::Received;
+use crate::position::next;
 use buffers::copy;
 use buffers::fill;
 use word::Decoded;
-use word::Figures;
 use word::Setting;
 use word::decode_part;
-use word::encode;
 use word::numbers::figures_of;
 use word::numbers::no_figures;
 use word::numbers::number_of;
 
-// What the outer word of a frame was found to have: 0 with its figures, or 4 with none.
-pub struct Found {
-    pub answer: u8,
-    pub figures: Figures,
-}
-
-// The mark of the bytes that a word passes on: 1 where it is refused.
-fn mark_of(d: Decoded) -> u8
-    ensures { λ r. ⌜ r ≡ ifZero (numberOf d) 0 1 ⌝ }
-{
-    if number_of(d) != 0 {
-        return 1;
-    }
-    0
-}
-
 // 24 bytes and 4 check bytes.
-fn outer_code() -> Setting
+pub fn outer_code() -> Setting
     ensures { λ r. ⌜ r ≡ outerCode ⌝ }
 {
     Setting {
@@ -44,7 +29,7 @@ fn outer_code() -> Setting
 }
 
 // 28 bytes and 4 check bytes.
-fn inner_code() -> Setting
+pub fn inner_code() -> Setting
     ensures { λ r. ⌜ r ≡ innerCode ⌝ }
 {
     Setting {
@@ -69,20 +54,17 @@ fn no_marks() -> [u8; 32]
     [0; 32]
 }
 
-// The outer word of a message.
-pub fn outer_word(message: &[u8]) -> [u8; 28]
-    ensures { λ r. ⌜ (r ≡ outerWord (now (message .entry))) × (length r ≡ 28) ⌝ }
+// The mark of the bytes that a word passes on: 1 where it is refused.
+fn mark_of(d: Decoded) -> u8
+    ensures { λ r. ⌜ r ≡ ifZero (numberOf d) 0 1 ⌝ }
 {
-    let mut word = frame_of(0);
-    encode(outer_code(), message, &mut word);
-    word
-}
-
-// The inner word of the 28 bytes that are due.
-pub fn inner_word(bytes: &[u8], word: &mut [u8])
-    ensures { λ _. ⌜ now (word .exit) ≡ innerWord (now (bytes .entry)) (now (word .entry)) ⌝ }
-{
-    encode(inner_code(), bytes, word);
+    match d {
+        Decoded::Done(_) => 0,
+        Decoded::BadSetting => 1,
+        Decoded::BadLength => 1,
+        Decoded::BadSymbol => 1,
+        Decoded::BeyondReach => 1,
+    }
 }
 
 // The 28 bytes that an inner word passes on, and the mark of each: corrected and 0, or where the word is refused as received and 1.
@@ -96,21 +78,33 @@ pub fn open_inner(word: &[u8], bytes: &mut [u8]) -> u8
     mark_of(decode_part(inner_code(), word, &marks, bytes))
 }
 
-// The message of an outer word with its marks: corrected, or zeros where the word is refused.
-pub fn close_outer(bytes: &[u8], marks: &[u8], message: &mut [u8]) -> Found
-    requires { ⌜ length (now message) ≡ 24 ⌝ }
-    ensures { λ r. ⌜ found r (now (message .exit)) ≡ closed (now (marks .entry)) (now (bytes .entry)) (now (message .entry)) ⌝ }
+// What becomes of the outer word that is due at a position: 7 for the first 108 frames, and the message bytes stay as they were; 4 and zeros
+// where the word is refused; else its message and figures. The frame is taken all the same, so the position goes on.
+pub fn settle(position: usize, bytes: &[u8], marks: &[u8], message: &mut [u8]) -> Received
+    requires { ⌜ (position < 108 + cycle) × (length (now message) ≡ 24) ⌝ }
+    ensures { λ r. ⌜ (received r (now (message .exit)) ≡ settled position (now (bytes .entry)) (now (marks .entry)) (now (message .entry))) × (r .position ≡ after 108 position) ⌝ }
 {
-    let d = decode_part(outer_code(), bytes, marks, message);
-    if number_of(d) != 0 {
-        fill(&mut message[0..24], 0);
-        return Found {
-            answer: 4,
+    let later = next(position, 108);
+    if position < 108 {
+        return Received {
+            answer: 7,
             figures: no_figures(),
+            position: later,
         };
     }
-    Found {
-        answer: 0,
+    let d = decode_part(outer_code(), bytes, marks, message);
+    let answer = number_of(d);
+    if answer != 0 {
+        fill(message, 0);
+        return Received {
+            answer: 4,
+            figures: no_figures(),
+            position: later,
+        };
+    }
+    Received {
+        answer,
         figures: figures_of(d),
+        position: later,
     }
 }

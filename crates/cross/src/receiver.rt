@@ -1,18 +1,15 @@
 // The receiver of a cross line: an inner word's bytes go on with a mark each, byte i is held back 4(27 - i) frames, and the 28 bytes that are
 // due are an outer word with its marks.
 ghost use mathlib.Core.Path.{_≡_};
-ghost use lib.ListN.{length};
 ghost use Rattle.cross.specs.Cross.{freshRefusal, receiveRefusal};
-ghost use Rattle.cross.specs.Checks.{ReceiveFine};
 ghost use Rattle.cross.specs.Promises.{FreshReceiver, Receive};
-use crate::codes::close_outer;
 use crate::codes::frame_of;
 use crate::codes::open_inner;
+use crate::codes::settle;
 use crate::delays::hold_back;
 use crate::position::Ready;
 use crate::position::Received;
 use crate::position::frames_of_a_cycle;
-use crate::position::next;
 use buffers::all_below;
 use buffers::fill;
 use word::numbers::no_figures;
@@ -73,39 +70,6 @@ fn receive_refusal(position: usize, memory: usize, held: &[u8], word: usize, mes
     0
 }
 
-// A frame that is not refused. The rings turn before it is known whether the message is due, so that a frame is taken whatever it is answered.
-fn take_frame(
-    position: usize,
-    memory: &mut [u8],
-    held: &mut [u8],
-    word: &[u8],
-    message: &mut [u8],
-) -> Received
-    requires { ⌜ ReceiveFine position (length (now memory)) (now held) (length (now word)) (length (now message)) ⌝ }
-    ensures { λ r. ⌜ Receive position (now (memory .entry)) (now (held .entry)) (now (word .entry)) (now (message .entry)) r (now (memory .exit)) (now (held .exit)) (now (message .exit)) ⌝ }
-{
-    let mut bytes = frame_of(0);
-    let mark = open_inner(word, &mut bytes);
-    let mut marks = frame_of(mark);
-    hold_back(memory, true, position, &mut bytes);
-    hold_back(held, true, position, &mut marks);
-    let later = next(position, 108);
-    if position < 108 {
-        return Received {
-            answer: 7,
-            figures: no_figures(),
-            position: later,
-        };
-    }
-    let found = close_outer(&bytes, &marks, message);
-    let figures = found.figures;
-    Received {
-        answer: found.answer,
-        figures,
-        position: later,
-    }
-}
-
 // One frame: an inner word of 32 bytes goes in, and the 24 bytes of the message that was sent 108 frames before come out.
 // Answers 0 with the outer word's figures; 7 for the first 108 frames, and the message bytes stay as they were; 4 where the outer word is
 // refused, and they are zeros. Or 1 for a position that no number of frames reaches, 2 for a length, 3 for a mark above 1 in the memory of
@@ -127,5 +91,10 @@ pub fn receive(
             position,
         };
     }
-    take_frame(position, memory, held, word, message)
+    let mut bytes = frame_of(0);
+    let mark = open_inner(word, &mut bytes);
+    let mut marks = frame_of(mark);
+    hold_back(memory, true, position, &mut bytes);
+    hold_back(held, true, position, &mut marks);
+    settle(position, &bytes, &marks, message)
 }

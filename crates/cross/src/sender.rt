@@ -2,13 +2,15 @@
 ghost use mathlib.Core.Path.{_≡_};
 ghost use Rattle.cross.specs.Cross.{sendRefusal};
 ghost use Rattle.cross.specs.Promises.{FreshSender, Send};
-use crate::codes::inner_word;
-use crate::codes::outer_word;
+use crate::codes::frame_of;
+use crate::codes::inner_code;
+use crate::codes::outer_code;
 use crate::delays::hold_back;
 use crate::position::Ready;
 use crate::position::frames_of_a_cycle;
 use crate::position::next;
 use buffers::fill;
+use word::encode;
 
 // A sender that has sent nothing: position 0, and a memory of 1512 zeros.
 // Answers 0; or 2 for a memory of another length, which stays as it was.
@@ -59,11 +61,13 @@ pub fn send(position: usize, memory: &mut [u8], message: &[u8], word: &mut [u8])
             position,
         };
     }
-    let mut bytes = outer_word(message);
+    let later = next(position, 0);
+    let mut bytes = frame_of(0);
+    encode(outer_code(), message, &mut bytes);
     hold_back(memory, false, position, &mut bytes);
-    inner_word(&bytes, word);
+    encode(inner_code(), &bytes, word);
     Ready {
         answer: 0,
-        position: next(position, 0),
+        position: later,
     }
 }

@@ -11,8 +11,8 @@ use lib.Dec.{T}
 use lib.ListN.{length}
 use Rattle.algebra.specs.Tests.{below}
 use Rattle.algebra.specs.Refusal.{need, need-yes, need-zero, first, first-none, first-zero, passes}
-use Rattle.rings.specs.Rings.{RingFits, order, ring-end, tri-size}
-use Rattle.rings.specs.Run.{Ran, run, run-size, run-position}
+use Rattle.rings.specs.Rings.{order, tri-size}
+use Rattle.rings.specs.Run.{RunFits, Ran, run, run-size, run-position}
 use Rattle.interleave.specs.Line.{period}
 use Rattle.interleave.specs.declared.line.Line.{Line}
 
@@ -130,13 +130,13 @@ receive-done l size held many marks r =
     let f = r .receiver in
     sym (first-none _ _ 0 (receiver-done l size (length held) (f .line) (f .exact)) (need-yes _ _ _ 0 (r .each) (need-yes _ _ _ 0 (f .fit) (need-yes _ _ _ 0 (r .small) refl))))
 
--- the ring of any branch fits a line's memory
-pub ring-fits : (l : Line) (size k q : ℕ) → Fine l size → k < l .branches → RingFits (l .unit) k q size
-ring-fits l size k q f h =
+-- a fine line may run
+pub run-fits : (l : Line) (size : ℕ) → Fine l size → RunFits (l .branches) (l .unit) (period (l .branches) (l .unit)) (l .position) size
+run-fits l size f =
     let s = f .allowed .setting in
     record {
-      some = s .unit .0;
-      unit = s .unit .1;
-      units = omega (arith, s .branches .1);
-      inside = λ u. omega (arith, f .exact, tri-size (l .branches) (l .unit), ring-end (l .unit) (s .unit .0) k (l .branches) q u h);
+      branches = (omega (arith, s .branches .0), omega (arith, s .branches .1));
+      unit = s .unit;
+      place = f .allowed .position;
+      exact = f .exact ∙ tri-size (l .branches) (l .unit);
     }

@@ -1,12 +1,11 @@
 // What the sender and the receiver of a delay line share: the setting with the position, its refusals, and the steps of a run.
 ghost use mathlib.Core.Path.{_≡_};
-ghost use Prim.Native.Nat.{_+_, _%_, _<_, _≤_};
+ghost use Prim.Native.Nat.{_≤_};
 ghost use lib.ListN.{length};
-ghost use Rattle.rings.specs.Rings.{order};
 ghost use Rattle.rings.specs.Run.{ran};
 ghost use Rattle.interleave.specs.Line.{common, period};
 ghost use Rattle.interleave.specs.Setting.{Fine, lineRefusal, receiverRefusal, lineRun};
-use rings::turn;
+use rings::run;
 
 // A line's setting and its position, the number of steps so far modulo the line's period. Sender and receiver have one each.
 pub struct Line {
@@ -63,48 +62,22 @@ pub fn period(branches: usize, unit: usize) -> usize
     common(branches) * unit * branches
 }
 
-// The position after this one. After the last comes 0.
-pub fn next(position: usize, period: usize) -> usize
-    requires { ⌜ (position < period) × (period ≤ 738017280) ⌝ }
-    ensures { λ r. ⌜ r ≡ (position + 1) % period ⌝ }
-{
-    let after = position + 1;
-    if after == period {
-        return 0;
-    }
-    after
-}
-
-// The units of a branch's ring: the receiver, with `back`, holds back longest where the sender held back least.
-fn ring_of(branch: usize, branches: usize, back: bool) -> usize
-    requires { ⌜ branch < branches ⌝ }
-    ensures { λ r. ⌜ r ≡ order back branches branch ⌝ }
-{
-    if back {
-        return branches - 1 - branch;
-    }
-    branch
-}
-
-// A step for each of the bytes, in order; what leaves at a step takes the place of what went in. Answers the position after them.
-// The receiver's marks run as its bytes do. The number of positions is found once and not at each step.
+// A step for each of the bytes, in order, from the line's position; answers the position after them.
 pub fn run_steps(line: Line, back: bool, memory: &mut [u8], bytes: &mut [u8]) -> usize
     requires { ⌜ Fine line (length (now memory)) ⌝ }
     ensures { λ r. ⌜ ran (now (bytes .exit)) (now (memory .exit)) r ≡ lineRun back line (now (memory .entry)) (now (bytes .entry)) ⌝ }
 {
     let branches = line.branches;
     let unit = line.unit;
-    let positions = period(branches, unit);
-    let mut position = line.position;
-    let mut i = 0;
-    while i < bytes.len() {
-        let k = ring_of(position % branches, branches, back);
-        let q = position / branches;
-        bytes[i] = turn(memory, unit, k, q, bytes[i]);
-        position = next(position, positions);
-        i += 1;
-    }
-    position
+    run(
+        branches,
+        unit,
+        back,
+        period(branches, unit),
+        line.position,
+        memory,
+        bytes,
+    )
 }
 
 // The number by which a line with a memory of `length` bytes is refused, or 0: the setting and the position, which some number of steps

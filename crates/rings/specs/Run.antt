@@ -3,15 +3,22 @@
 -- Assumes nothing.
 use mathlib.Core.Path.{_≡_, refl, sym, ap, _∙_}
 use mathlib.Core.List.{List, [], _∷_, _++_}
-use Prim.Native.Nat.{ℕ, zero, suc, _+_, _*_, _%_, _<_}
+use Prim.Native.Nat.{ℕ, zero, suc, _+_, _*_, _%_, _≤_, _<_}
 use native.Mathlib.Nat.{add-zero, zero-add, add-suc, suc-add, mod-lt}
 use native.Mathlib.Omega.{arith}
 use lib.Dec.{T, ltb, ltb→lt}
 use lib.ListN.{length, replicate}
 use Rattle.algebra.specs.Tests.{at, below, first, second}
 use Rattle.algebra.specs.Lists.{tabulate, tabulated}
-use Rattle.rings.specs.Rings.{tri}
+use Rattle.rings.specs.Rings.{tri, RingFits, ring-end}
 use Rattle.rings.specs.Delay.{lineOut, lineKept, position, memory, answer, kept-length, kept-below}
+
+-- what `run` asks of its numbers: they are small, the position is one of the P, and the memory is as long as all its rings
+pub record RunFits (I M P p size : ℕ) : Type 0 where
+  pub branches : (0 < I) × (I ≤ 32)
+  pub unit : (0 < M) × (M ≤ 128)
+  pub place : p < P
+  pub exact : size ≡ tri I * M
 
 -- what a run gives: the bytes that left, the memory, and the position after it
 pub record Ran : Type 0 where
@@ -21,6 +28,15 @@ pub record Ran : Type 0 where
 
 abbrev pub ran : List ℕ → List ℕ → ℕ → Ran
 ran out m p = record { out = out; memory = m; position = p }
+
+-- the ring of any branch fits the memory
+pub ring-fits : (I M P p size k q : ℕ) → RunFits I M P p size → k < I → RingFits M k q size
+ring-fits I M P p size k q f h = record {
+  some = f .unit .0;
+  unit = f .unit .1;
+  units = omega (arith, f .branches .1);
+  inside = λ u. omega (arith, f .exact, ring-end M (f .unit .0) k I q u h);
+}
 
 shifted : (f : ℕ → ℕ) (s k : ℕ) → tabulate (suc k) (λ i. f (s + i)) ≡ f s ∷ tabulate k (λ i. f (suc s + i))
 unfolding tabulate
@@ -99,7 +115,7 @@ module _ (units : ℕ → ℕ) (I M P : ℕ) where
         ∙ ap (λ (z : List ℕ). ran z (held (s + suc k)) (position P (s + suc k))) (sym (shifted (answer units I M P d f) s k))
 
     -- From step s on: k steps give the answers s to s + k - 1 of the rule, and leave memory and position as they are after s + k steps.
-    run-from : (k s : ℕ) → run (position P s) (held s) (tabulate k (λ i. f (s + i))) ≡ ran (given s k) (held (s + k)) (position P (s + k))
+    pub run-from : (k s : ℕ) → run (position P s) (held s) (tabulate k (λ i. f (s + i))) ≡ ran (given s k) (held (s + k)) (position P (s + k))
     unfolding tabulate
     run-from zero s = rw add-zero (run-none (position P s) (held s))
     run-from (suc k) s = ap (run (position P s) (held s)) (shifted f s k) ∙ run-next s k (tabulate k (λ i. f (suc s + i))) (run-from k (suc s))

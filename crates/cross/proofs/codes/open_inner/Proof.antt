@@ -1,13 +1,11 @@
 -- `codes::open_inner` meets its contract: it is what `decode_part` promises of a part that holds the first 28 bytes of the word.
 -- Assumes nothing.
-use mathlib.Core.Path.{_≡_, ap, _∙_}
+use mathlib.Core.Path.{_≡_, _∙_}
 use native.Mathlib.Omega.{arith}
 use borrow.Author.Needs.{needs}
 use lib.ListN.{length, take, length-take}
 use lib.Seq.{take-all, length-take-le}
-use Rattle.algebra.specs.Refusal.{ifZero}
-use Rattle.word.specs.Answers.{DecodeOutcome, decodeOutcome}
-use Rattle.cross.specs.Cross.{opened}
+use Rattle.cross.specs.Codes.{inner-given}
 use Rattle.cross.proofs.codes.open_inner.Statement.{statement}
 use Rattle.cross.proofs.codes.open_inner.Tie as tie
 
@@ -45,14 +43,15 @@ same-length : tie.Need-same-length
 same-length c = search needs
 
 returns : tie.Need-returns
-unfolding opened
 returns c =
-    let word = c .before .before .before .before .before .before .before .before .before .before .before .before .before .before .before .args .word .now in
-    let d = c .before .before .before .decode-part in
-    let front = rw (c .before .before .before .before .before .before .before .before .before .before .before .before .before .before .before .pre .1) at (c .before .before .before .before .before .before .before .before .before .before .copy .ensures) in
+    let decoded = c .before .before .before in
+    let copied = decoded .before .before .before .before .before .before .before in
+    let start = copied .before .before .before .before .before in
+    let word = start .args .word .now in
+    let front = rw (start .pre .1) at (copied .copy .ensures) in
     let whole : take 28 (take 28 word) ≡ take 28 word = take-all 28 (take 28 word) (omega (arith, length-take 28 word)) in
-    let e : decodeOutcome (d .result) (d .last .1 .1 .1 .0) ≡ opened word = rw (c .before .before .before .before .before .before .inner-code .ensures, c .before .before .before .before .before .before .before .no-marks .ensures, front, whole) at (d .ensures .outcome) in
-    (c .mark-of .ensures ∙ ap (λ (o : DecodeOutcome). ifZero (o .number) 0 1) e, ap (λ (o : DecodeOutcome). o .word) e)
+    let (mark, passed) = inner-given word _ _ (rw (decoded .before .before .before .inner-code .ensures, decoded .before .before .before .before .no-marks .ensures, front, whole) at (decoded .decode-part .ensures)) in
+    (c .mark-of .ensures ∙ mark, passed)
 
 pub open-inner-spec : {M : Type 1} → statement M
 open-inner-spec =

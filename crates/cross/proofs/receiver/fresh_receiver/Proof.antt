@@ -1,11 +1,10 @@
 -- `fresh_receiver` meets its contract: refused, it leaves both memories alone; else they have 1512 bytes each, and are filled with 0 and with 1.
 -- Assumes nothing.
-use mathlib.Core.Path.{sym, ap, _∙_}
+use mathlib.Core.Path.{refl, sym, ap, _∙_}
 use Prim.Native.Nat.{ℕ}
 use lib.ListN.{replicate}
 use borrow.Author.Needs.{needs}
 use Rattle.algebra.specs.Refusal.{kept}
-use Rattle.cross.specs.Promises.{ready}
 use Rattle.cross.specs.Checks.{fresh-fine}
 use Rattle.cross.proofs.receiver.fresh_receiver.Statement.{statement}
 use Rattle.cross.proofs.receiver.fresh_receiver.Tie as tie
@@ -14,9 +13,7 @@ fresh-refusal-requires : tie.Need-fresh-refusal-requires
 fresh-refusal-requires c κs = search needs
 
 returns : tie.Need-returns
-returns c =
-    let e = c .before .fresh-refusal .ensures in
-    record { answer = ap (λ (k : ℕ). ready k 0) e; memory = rw (← e) (kept _ _ _ (c .if1 .taken)); held = rw (← e) (kept _ _ _ (c .if1 .taken)) }
+returns c = record { outcome = rw (← c .before .fresh-refusal .ensures) (kept _ _ _ (c .if1 .taken)) }
 
 fill-requires : tie.Need-fill-requires
 fill-requires c κs = search needs
@@ -32,22 +29,14 @@ same-length-2 c = search needs
 
 returns-2 : tie.Need-returns-2
 returns-2 c =
-    let e = sym (c .before .before .before .before .before .before .before .before .before .fresh-refusal .ensures) ∙ c .before .before .before .before .before .before .before .before .if1 .left in
+    let fine = c .before .before .before .before .before .before .before .before in
+    let e = sym (fine .before .fresh-refusal .ensures) ∙ fine .if1 .left in
     let (f, g) = fresh-fine _ _ e in
-    record {
-      answer = ap (λ (k : ℕ). ready k 0) (sym e);
-      memory = rw e (c .before .before .before .before .before .before .fill .ensures ∙ ap (λ (z : ℕ). replicate z 0) f);
-      held = rw e (c .before .before .fill2 .ensures ∙ ap (λ (z : ℕ). replicate z 1) g);
-    }
+    let zeros = c .before .before .before .before .before .before .fill .ensures ∙ ap (λ (z : ℕ). replicate z 0) f in
+    let ones = c .before .before .fill2 .ensures ∙ ap (λ (z : ℕ). replicate z 1) g in
+    record { outcome = rw (e, zeros, ones) refl }
 
 pub fresh-receiver-spec : {M : Type 1} → statement M
 fresh-receiver-spec =
     tie.close
-    (tie.spec
-    fresh-refusal-requires
-    returns
-    fill-requires
-    fill-requires-2
-    same-length
-    same-length-2
-    returns-2)
+    (tie.spec fresh-refusal-requires returns fill-requires fill-requires-2 same-length same-length-2 returns-2)

@@ -47,7 +47,7 @@ returns-5 c =
     let m = c .before .all-below in
     need-yes _ _ _ _ (omega arith)
     (first-none _ _ _ (sym (c .before .before .before .before .before .fresh-refusal .ensures) ∙ c .before .before .before .before .if2 .left)
-    (need-yes _ _ _ _ (c .before .before .before .if3 .left) (need-yes _ _ _ _ (c .before .before .if4 .left) (need-no _ _ _ (test-no _ _ (m .ensures) (c .if5 .taken))))))
+    (need-yes _ _ _ _ (c .before .before .before .if3 .left) (need-yes _ _ _ _ (c .before .before .if4 .left) (need-no _ _ _ (test-no (m .result) _ (m .ensures) (c .if5 .taken))))))
 
 returns-6 : tie.Need-returns-6
 unfolding receiveRefusal
@@ -55,7 +55,7 @@ returns-6 c =
     let m = c .before .all-below in
     need-yes _ _ _ _ (omega arith)
     (first-none _ _ _ (sym (c .before .before .before .before .before .fresh-refusal .ensures) ∙ c .before .before .before .before .if2 .left)
-    (need-yes _ _ _ _ (c .before .before .before .if3 .left) (need-yes _ _ _ _ (c .before .before .if4 .left) (need-yes _ _ _ _ (test-yes _ _ (m .ensures) (c .if5 .left)) refl))))
+    (need-yes _ _ _ _ (c .before .before .before .if3 .left) (need-yes _ _ _ _ (c .before .before .if4 .left) (need-yes _ _ _ _ (test-yes (m .result) _ (m .ensures) (c .if5 .left)) refl))))
 
 pub receive-refusal-spec : {M : Type 1} → statement M
 receive-refusal-spec =

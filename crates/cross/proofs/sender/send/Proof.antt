@@ -1,9 +1,14 @@
--- `send` meets its contract: refused, all stays; else the promises of its parts are put together.
+-- `send` meets its contract: refused, all stays; else outer word, delay and inner word are what its parts promise.
 -- Assumes nothing.
-use mathlib.Core.Path.{refl, sym, _∙_}
+use mathlib.Core.Path.{_≡_, refl, sym, ap, _∙_}
+use mathlib.Core.List.{List}
+use Prim.Native.Nat.{ℕ}
 use native.Mathlib.Omega.{arith}
+use lib.ListN.{length, length-replicate}
 use borrow.Author.Needs.{needs}
 use Rattle.algebra.specs.Refusal.{kept}
+use Rattle.word.specs.Answers.{EncodeOutcome}
+use Rattle.cross.specs.Cross.{outerWord, innerWord}
 use Rattle.cross.specs.Checks.{send-fine}
 use Rattle.cross.proofs.sender.send.Statement.{statement}
 use Rattle.cross.proofs.sender.send.Tie as tie
@@ -12,27 +17,41 @@ send-refusal-requires : tie.Need-send-refusal-requires
 send-refusal-requires c κs = search needs
 
 returns : tie.Need-returns
-returns c =
-    let e = c .before .send-refusal .ensures in
-    record { answer = rw (← e) (kept _ _ _ (c .if1 .taken)); memory = rw (← e) (kept _ _ _ (c .if1 .taken)); sent = rw (← e) (kept _ _ _ (c .if1 .taken)) }
+returns c = record { outcome = rw (← c .before .send-refusal .ensures) (kept _ _ _ (c .if1 .taken)) }
 
-outer-word-requires : tie.Need-outer-word-requires
-outer-word-requires c κs = search needs
+next-requires : tie.Need-next-requires
+next-requires c κs = omega (arith, send-fine _ _ _ _ _ (c .before .send-refusal .ensures) (c .if1 .left) .position)
+
+frame-of-requires : tie.Need-frame-of-requires
+frame-of-requires c κs = search needs
+
+outer-code-requires : tie.Need-outer-code-requires
+outer-code-requires c κs = search needs
+
+slice-aggregate-encode : tie.Need-slice-aggregate-encode
+slice-aggregate-encode c = search needs
+
+encode-requires : tie.Need-encode-requires
+encode-requires c κs = search needs
 
 slice-aggregate-hold-back : tie.Need-slice-aggregate-hold-back
 slice-aggregate-hold-back c = search needs
 
 hold-back-requires : tie.Need-hold-back-requires
-hold-back-requires c κs = (send-fine _ _ _ _ (sym (c .before .before .before .before .send-refusal .ensures) ∙ c .before .before .before .if1 .left) .memory-size, c .before .before .outer-word .ensures .1)
+hold-back-requires c κs =
+    let fine = c .before .before .before .before .before .before .before .before in
+    let framed = c .before .before .before .before .before .before .frame-of in
+    let size : length (c .before .before .before .encode .last .1 .1 .0) ≡ length (framed .result) = search needs in
+    (send-fine _ _ _ _ _ (fine .before .send-refusal .ensures) (fine .if1 .left) .memory-size, size ∙ ap (λ (l : List ℕ). length l) (framed .ensures) ∙ length-replicate {A = ℕ} 28 0)
 
-slice-aggregate-inner-word : tie.Need-slice-aggregate-inner-word
-slice-aggregate-inner-word c = search needs
+inner-code-requires : tie.Need-inner-code-requires
+inner-code-requires c κs = search needs
 
-inner-word-requires : tie.Need-inner-word-requires
-inner-word-requires c κs = search needs
+slice-aggregate-encode-2 : tie.Need-slice-aggregate-encode-2
+slice-aggregate-encode-2 c = search needs
 
-next-requires : tie.Need-next-requires
-next-requires c κs = omega (arith, send-fine _ _ _ _ (sym (c .before .before .before .before .before .before .before .before .before .before .before .before .before .send-refusal .ensures) ∙ c .before .before .before .before .before .before .before .before .before .before .before .before .if1 .left) .position)
+encode-requires-2 : tie.Need-encode-requires-2
+encode-requires-2 c κs = search needs
 
 same-length : tie.Need-same-length
 same-length c = search needs
@@ -41,15 +60,16 @@ same-length-2 : tie.Need-same-length-2
 same-length-2 c = search needs
 
 returns-2 : tie.Need-returns-2
+unfolding outerWord innerWord
 returns-2 c =
-    let z = sym (c .before .before .before .before .before .before .before .before .before .before .before .before .before .before .send-refusal .ensures) ∙ c .before .before .before .before .before .before .before .before .before .before .before .before .before .if1 .left in
-    let o = c .before .before .before .before .before .before .before .before .before .before .before .before .outer-word .ensures .0 in
-    let t = rw o at (c .before .before .before .before .before .before .before .before .before .hold-back .ensures) in
-    record {
-      answer = rw (z, c .next .ensures) refl;
-      memory = rw z (t .memory);
-      sent = rw (z, ← t .bytes) (c .before .before .before .inner-word .ensures);
-    }
+    let turned = c .before .before .before .before .before .before .before .before .before in
+    let coded = turned .before .before .before .before in
+    let fine = coded .before .before .before .before .before in
+    let z = sym (fine .before .send-refusal .ensures) ∙ fine .if1 .left in
+    let outer = ap (λ (o : EncodeOutcome). o .word) (rw (coded .before .before .outer-code .ensures, coded .before .before .before .frame-of .ensures) at (coded .encode .ensures .outcome)) in
+    let (memory, bytes) = rw outer at (turned .hold-back .ensures) in
+    let inner = ap (λ (o : EncodeOutcome). o .word) (rw (c .before .before .before .before .before .inner-code .ensures, bytes) at (c .before .before .encode2 .ensures .outcome)) in
+    record { outcome = rw (z, coded .before .before .before .before .next .ensures, memory, inner) refl }
 
 pub send-spec : {M : Type 1} → statement M
 send-spec =
@@ -57,12 +77,16 @@ send-spec =
     (tie.spec
     send-refusal-requires
     returns
-    outer-word-requires
+    next-requires
+    frame-of-requires
+    outer-code-requires
+    slice-aggregate-encode
+    encode-requires
     slice-aggregate-hold-back
     hold-back-requires
-    slice-aggregate-inner-word
-    inner-word-requires
-    next-requires
+    inner-code-requires
+    slice-aggregate-encode-2
+    encode-requires-2
     same-length
     same-length-2
     returns-2)

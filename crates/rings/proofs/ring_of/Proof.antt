@@ -2,8 +2,8 @@
 -- Assumes nothing.
 use mathlib.Core.Path.{refl}
 use borrow.Author.Needs.{needs}
-use Rattle.interleave.proofs.line.ring_of.Statement.{statement}
-use Rattle.interleave.proofs.line.ring_of.Tie as tie
+use Rattle.rings.proofs.ring_of.Statement.{statement}
+use Rattle.rings.proofs.ring_of.Tie as tie
 
 sub-result : tie.Need-sub-result
 sub-result c = search needs

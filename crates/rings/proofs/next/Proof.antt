@@ -1,11 +1,11 @@
--- `setting::next` meets its contract: at the period the rest is 0, and below it the number itself.
+-- `next` meets its contract: at the last position the rest is 0, and below it the number itself.
 -- Assumes nothing.
 use mathlib.Core.Path.{sym}
 use native.Mathlib.Omega.{arith}
 use borrow.Author.Needs.{needs}
 use native.Mathlib.Nat.{mod-self, mod-eq-of-lt}
-use Rattle.interleave.proofs.line.next.Statement.{statement}
-use Rattle.interleave.proofs.line.next.Tie as tie
+use Rattle.rings.proofs.next.Statement.{statement}
+use Rattle.rings.proofs.next.Tie as tie
 
 add-after : tie.Need-add-after
 add-after c = search needs
