@@ -53,12 +53,12 @@ pub fn receive_step(line: Line, memory: &mut [u8], held: &mut [u8], byte: u8, ma
             line,
         };
     }
-    let later = run.line;
+    let moved = run.line;
     Received {
         answer: 0,
         byte: one[0],
         mark: flag[0],
-        line: later,
+        line: moved,
     }
 }
 

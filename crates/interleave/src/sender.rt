@@ -40,11 +40,11 @@ pub fn send_step(line: Line, memory: &mut [u8], byte: u8) -> Sent
             line,
         };
     }
-    let later = run.line;
+    let moved = run.line;
     Sent {
         answer: 0,
         byte: one[0],
-        line: later,
+        line: moved,
     }
 }
 
