@@ -57,7 +57,7 @@ fn common(branches: usize) -> usize
 // The number of positions of a line: after so many steps every ring is where it was.
 pub fn period(branches: usize, unit: usize) -> usize
     requires { ⌜ (branches ≤ 16) × (unit ≤ 128) ⌝ }
-    ensures { λ r. ⌜ (r ≡ period branches unit) × (r ≤ 738017280) ⌝ }
+    ensures { λ r. ⌜ r ≡ period branches unit ⌝ }
 {
     common(branches) * unit * branches
 }

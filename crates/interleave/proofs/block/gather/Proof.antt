@@ -1,4 +1,4 @@
--- `block::gather` meets its contract: refused, it leaves the words alone; else the slots are n rows of J, and transposed.
+-- `gather` meets its contract: refused, it leaves the words alone; else the slots are n rows of J, and transposed.
 -- Assumes nothing.
 use mathlib.Core.Path.{refl, sym, _∙_}
 use Prim.Native.Nat.{_<_}

@@ -1,4 +1,4 @@
--- `block::spread` meets its contract: refused, it leaves the slots alone; else the words are J rows of n, and transposed.
+-- `spread` meets its contract: refused, it leaves the slots alone; else the words are J rows of n, and transposed.
 -- Assumes nothing.
 use mathlib.Core.Path.{refl, sym, _∙_}
 use borrow.Author.Needs.{needs}

@@ -1,4 +1,4 @@
--- `block::transpose` meets its contract. The invariant: row, column and `from` stand for place s of the target, and the first s places are filled.
+-- `transpose` meets its contract. The invariant: row, column and `from` stand for place s of the target, and the first s places are filled.
 -- Assumes nothing.
 use mathlib.Core.Path.{sym, _∙_}
 use Prim.Native.Nat.{_+_, _-_, _*_, _/_, _%_, _≤_}

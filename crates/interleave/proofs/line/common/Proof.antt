@@ -1,4 +1,4 @@
--- `setting::common` meets its contract: each arm gives the entry of the table at its keys, and past the last key stands 360360.
+-- `common` meets its contract: each arm gives the entry of the table at its keys, and past the last key stands 360360.
 -- Assumes nothing.
 use mathlib.Core.Path.{_≡_, sym}
 use Prim.Native.Nat.{ℕ, _+_, _-_, _<_, _≤_}

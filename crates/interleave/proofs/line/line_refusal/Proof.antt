@@ -54,7 +54,7 @@ period-requires c κs = search needs
 
 returns-9 : tie.Need-returns-9
 unfolding lineRefusal
-returns-9 c = need-no _ _ _ λ a. omega (arith, a .position, c .before .period .ensures .0)
+returns-9 c = need-no _ _ _ λ a. omega (arith, a .position, c .before .period .ensures)
 
 mul-if10 : tie.Need-mul-if10
 mul-if10 c =

@@ -1,4 +1,4 @@
--- `setting::period` meets its contract: it is the product of the definition, and the limits bound it.
+-- `period` meets its contract: it is the product of the definition, which the limits bound.
 -- Assumes nothing.
 use mathlib.Core.Path.{refl, ap}
 use Prim.Native.Nat.{ℕ, _*_}
@@ -24,7 +24,7 @@ mul-result-2 c =
 
 returns : tie.Need-returns
 unfolding period
-returns c = rw (c .common .ensures) (refl, period-bound (c .before .args .branches) (c .before .args .unit) (c .before .pre .0) (c .before .pre .1) .1)
+returns c = rw (c .common .ensures) refl
 
 pub period-spec : {M : Type 1} → statement M
 period-spec = tie.close (tie.spec common-requires mul-result mul-result-2 returns)

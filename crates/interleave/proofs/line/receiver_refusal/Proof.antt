@@ -1,4 +1,4 @@
--- `setting::receiver_refusal` meets its contract: the line's refusal goes first, then the length of the marks.
+-- `receiver_refusal` meets its contract: the line's refusal goes first, then the length of the marks.
 -- Assumes nothing.
 use mathlib.Core.Path.{refl, sym, _∙_}
 use borrow.Author.Needs.{needs}

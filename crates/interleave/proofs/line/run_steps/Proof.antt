@@ -9,7 +9,7 @@ period-requires : tie.Need-period-requires
 period-requires c κs = search needs
 
 run-requires : tie.Need-run-requires
-run-requires c κs = rw (c .before .before .period .ensures .0) (run-fits _ _ (c .before .before .before .before .before .pre))
+run-requires c κs = rw (c .before .before .period .ensures) (run-fits _ _ (c .before .before .before .before .before .pre))
 
 same-length : tie.Need-same-length
 same-length c = search needs
@@ -20,7 +20,7 @@ same-length-2 c = search needs
 returns : tie.Need-returns
 returns c =
     let ran = c .before .before .before .before in
-    rw (ran .before .before .before .period .ensures .0) at (ran .run .ensures)
+    rw (ran .before .before .before .period .ensures) at (ran .run .ensures)
 
 pub run-steps-spec : {M : Type 1} → statement M
 run-steps-spec =
