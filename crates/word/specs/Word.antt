@@ -1,4 +1,4 @@
--- Document 01, "Word code": the value of a word, and the figures e, f and bits, which are defined in the crate `figures`.
+-- Document 01, "Word code": the value of a word, and the figures e, f and bits, which Figures defines.
 -- Assumes nothing.
 use mathlib.Core.List.{List, [], _∷_}
 use Prim.Native.Nat.{ℕ}

@@ -141,10 +141,10 @@ pub fn decode_part(s: Setting, received: &[u8], marks: &[u8], part: &mut [u8]) -
 {
     let mut work = work_space();
     let number = part_refusal(s, received, marks, part);
-    let d = answer(s, number, received, marks, &mut work);
-    if number_of(d) != 0 {
-        return d;
+    let told = answer(s, number, received, marks, &mut work);
+    if number_of(told) != 0 {
+        return told;
     }
     copy(&work, part);
-    d
+    told
 }

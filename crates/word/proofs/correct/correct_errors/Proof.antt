@@ -27,15 +27,17 @@ same-length c = search needs
 
 returns : tie.Need-returns
 returns c =
-    let start = c .before .before .before .before .before .before .before .before .before .before in
+    let places = c .before .before .before .before .before in
+    let start = places .before .before .before .before .before in
     let k = start .pre .0 in
-    lost-left _ _ _ (k .checked) _ (k .counted) (k .few) _ (k .syndromes) _ _ (rw (start .pre .1) at (c .before .before .before .before .before .correct-places .ensures)) _
+    lost-left _ _ _ (k .checked) _ (k .counted) (k .few) _ (k .syndromes) _ _ (rw (start .pre .1) at (places .correct-places .ensures)) _
     (sym (c .before .before .all-zero .ensures) ∙ not-true _ (c .before .if1 .taken)) (c .none-found .ensures)
 
 count-errors-requires : tie.Need-count-errors-requires
 count-errors-requires c κs =
-    let k = c .before .before .before .before .before .before .before .before .before .before .pre .0 .checked in
-    (omega (arith, k .size, at-most _ (limits _ (k .setting))), k .marks-size ∙ sym (k .size), c .before .before .before .before .before .correct-places .ensures .are-corrected .size ∙ sym (k .size))
+    let places = c .before .before .before .before .before in
+    let k = places .before .before .before .before .before .pre .0 .checked in
+    (omega (arith, k .size, at-most _ (limits _ (k .setting))), k .marks-size ∙ sym (k .size), places .correct-places .ensures .are-corrected .size ∙ sym (k .size))
 
 mul-if2 : tie.Need-mul-if2
 mul-if2 c =
@@ -55,31 +57,38 @@ same-length-2 c = search needs
 
 returns-2 : tie.Need-returns-2
 returns-2 c =
-    let start = c .before .before .before .before .before .before .before .before .before .before .before .before .before .before in
+    let counted = c .before .before .before in
+    let places = counted .before .before .before .before .before .before in
+    let start = places .before .before .before .before .before in
     let k = start .pre .0 in
-    lost-far _ _ _ (k .checked) _ (k .counted) (k .few) _ (k .syndromes) _ _ (rw (start .pre .1) at (c .before .before .before .before .before .before .before .before .before .correct-places .ensures)) _ _
-    (c .before .before .before .count-errors .ensures .0) (c .before .if2 .taken) (c .none-found2 .ensures)
+    lost-far _ _ _ (k .checked) _ (k .counted) (k .few) _ (k .syndromes) _ _ (rw (start .pre .1) at (places .correct-places .ensures)) _ _
+    (counted .count-errors .ensures .0) (c .before .if2 .taken) (c .none-found2 .ensures)
 
 count-bits-requires : tie.Need-count-bits-requires
 count-bits-requires c κs =
-    let k = c .before .before .before .before .before .before .before .before .before .before .before .before .before .before .pre .0 .checked in
-    (omega (arith, k .size, at-most _ (limits _ (k .setting))), c .before .before .before .before .before .before .before .before .before .correct-places .ensures .are-corrected .size ∙ sym (k .size))
+    let places = c .before .before .before .before .before .before .before .before .before in
+    let k = places .before .before .before .before .before .pre .0 .checked in
+    (omega (arith, k .size, at-most _ (limits _ (k .setting))), places .correct-places .ensures .are-corrected .size ∙ sym (k .size))
 
 found-requires : tie.Need-found-requires
 found-requires c κs =
-    let k = c .before .before .before .before .before .before .before .before .before .before .before .before .before .before .before .pre .0 in
+    let counted = c .before .before .before .before in
+    let k = counted .before .before .before .before .before .before .before .before .before .before .before .pre .0 in
     let few = at-most _ (limits _ (k .checked .setting)) in
-    (omega (arith, c .before .before .before .before .count-errors .ensures .1, k .checked .size, few), omega (arith, k .few, limits _ (k .checked .setting) .high), omega (arith, c .count-bits .ensures .1, k .checked .size, few))
+    (omega (arith, counted .count-errors .ensures .1, k .checked .size, few), omega (arith, k .few, limits _ (k .checked .setting) .high), omega (arith, c .count-bits .ensures .1, k .checked .size, few))
 
 same-length-3 : tie.Need-same-length-3
 same-length-3 c = search needs
 
 returns-3 : tie.Need-returns-3
 returns-3 c =
-    let start = c .before .before .before .before .before .before .before .before .before .before .before .before .before .before .before .before in
+    let counted = c .before .before .before .before .before in
+    let zero = counted .before .before in
+    let places = zero .before .before .before .before in
+    let start = places .before .before .before .before .before in
     let k = start .pre .0 in
-    found-corrected _ _ _ (k .checked) _ (k .counted) (k .few) _ (k .syndromes) _ _ (rw (start .pre .1) at (c .before .before .before .before .before .before .before .before .before .before .before .correct-places .ensures)) _ _
-    (c .before .before .before .before .before .count-errors .ensures .0) (omega arith) (sym (c .before .before .before .before .before .before .before .before .all-zero .ensures) ∙ not-false _ (c .before .before .before .before .before .before .before .if1 .left)) _ (c .before .count-bits .ensures .0) (c .found .ensures)
+    found-corrected _ _ _ (k .checked) _ (k .counted) (k .few) _ (k .syndromes) _ _ (rw (start .pre .1) at (places .correct-places .ensures)) _ _
+    (counted .count-errors .ensures .0) (omega arith) (sym (zero .before .all-zero .ensures) ∙ not-false _ (zero .if1 .left)) _ (c .before .count-bits .ensures .0) (c .found .ensures)
 
 pub correct-errors-spec : {M : Type 1} → statement M
 correct-errors-spec =

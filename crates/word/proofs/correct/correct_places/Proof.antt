@@ -34,15 +34,18 @@ same-length : tie.Need-same-length
 same-length c = search needs
 
 returns : tie.Need-returns
-returns c = record {
-  peeled = c .before .before .before .before .before .before .before .before .before .before .peel-all .result;
-  vector = c .before .before .before .before .before .before .before .before .before .kernel .result;
-  flags = c .before .before .before .before .before .before .candidates .result;
-  is-peeled = c .before .before .before .before .before .before .before .before .before .before .peel-all .ensures;
-  is-kernel = c .before .before .before .before .before .before .before .before .before .kernel .ensures;
-  are-candidates = rw add-one at (c .before .before .before .before .before .before .candidates .ensures);
-  are-corrected = c .before .before .correct .ensures;
-}
+returns c =
+    let flagged = c .before .before .before .before .before .before in
+    let found = flagged .before .before .before in
+    record {
+      peeled = found .before .peel-all .result;
+      vector = found .kernel .result;
+      flags = flagged .candidates .result;
+      is-peeled = found .before .peel-all .ensures;
+      is-kernel = found .kernel .ensures;
+      are-candidates = rw add-one at (flagged .candidates .ensures);
+      are-corrected = c .before .before .correct .ensures;
+    }
 
 pub correct-places-spec : {M : Type 1} → statement M
 correct-places-spec =

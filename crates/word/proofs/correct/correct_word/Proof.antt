@@ -35,27 +35,31 @@ all-zero-requires c κs = limits _ (c .before .before .before .before .before .b
 
 found-requires : tie.Need-found-requires
 found-requires c κs =
-    let start = c .before .before .before .before .before .before .before .before .before .before .before .before .before in
-    let k = start .pre .0 in
-    (omega arith, omega (arith, c .before .before .before .before .before .before .before .before .before .count-marks .ensures .1, k .marks-size, at-most _ (limits _ (k .setting))), omega arith)
+    let counted = c .before .before .before .before .before .before .before .before .before in
+    let k = counted .before .before .before .before .pre .0 in
+    (omega arith, omega (arith, counted .count-marks .ensures .1, k .marks-size, at-most _ (limits _ (k .setting))), omega arith)
 
 same-length : tie.Need-same-length
 same-length c = search needs
 
 returns-2 : tie.Need-returns-2
 returns-2 c =
-    let start = c .before .before .before .before .before .before .before .before .before .before .before .before .before .before in
+    let copy = c .before .before .before .before .before .before in
+    let counted = copy .before .before .before .before in
+    let start = counted .before .before .before .before in
     let k = start .pre .0 in
-    rw (copied (start .args .out .now) (start .args .received .now) _ _ (start .pre .1) (k .size) (c .before .before .before .before .before .before .copy .ensures))
-    (found-clean _ _ _ k _ (marks-counted _ _ _ k _ (c .before .before .before .before .before .before .before .before .before .before .count-marks .ensures .0)) (omega arith) _ (c .before .before .before .syndromes .ensures) _
+    rw (copied (start .args .out .now) (start .args .received .now) _ _ (start .pre .1) (k .size) (copy .copy .ensures))
+    (found-clean _ _ _ k _ (marks-counted _ _ _ k _ (counted .count-marks .ensures .0)) (omega arith) _ (c .before .before .before .syndromes .ensures) _
     (sym (c .before .before .all-zero .ensures) ∙ c .before .if2 .taken) (c .found .ensures))
 
 correct-errors-requires : tie.Need-correct-errors-requires
 correct-errors-requires c κs =
-    let start = c .before .before .before .before .before .before .before .before .before .before .before .before .before .before in
+    let copy = c .before .before .before .before .before .before in
+    let counted = copy .before .before .before .before in
+    let start = counted .before .before .before .before in
     let k = start .pre .0 in (
-      record { checked = k; counted = marks-counted _ _ _ k _ (c .before .before .before .before .before .before .before .before .before .before .count-marks .ensures .0); few = omega arith; syndromes = c .before .before .before .syndromes .ensures },
-      copied (start .args .out .now) (start .args .received .now) _ _ (start .pre .1) (k .size) (c .before .before .before .before .before .before .copy .ensures),
+      record { checked = k; counted = marks-counted _ _ _ k _ (counted .count-marks .ensures .0); few = omega arith; syndromes = c .before .before .before .syndromes .ensures },
+      copied (start .args .out .now) (start .args .received .now) _ _ (start .pre .1) (k .size) (copy .copy .ensures),
     )
 
 same-length-2 : tie.Need-same-length-2
