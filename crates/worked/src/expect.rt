@@ -1,10 +1,12 @@
 // Calls of the word code held to the answer that the paper gives.
 ghost use Prim.Native.Nat.{_≤_};
 ghost use lib.ListN.{length};
-use crate::same::same;
+use check::same;
 use word::Decoded;
-use word::Encoded;
 use word::Setting;
+use word::numbers::encoded_number;
+use word::numbers::figures_of;
+use word::numbers::number_of;
 
 // What the paper says of a received word: the number answered, with e, f and bits.
 pub struct Outcome {
@@ -44,24 +46,14 @@ pub fn refused(number: u8) -> Outcome {
     }
 }
 
-// The paper's number for what encoding answers.
-fn encoded_number(answer: Encoded) -> u8 {
-    match answer {
-        Encoded::Done => 0,
-        Encoded::BadSetting => 1,
-        Encoded::BadLength => 2,
-        Encoded::BadSymbol => 3,
-    }
-}
-
 // The paper's number and figures for what decoding answers.
 fn found(answer: Decoded) -> Outcome {
-    match answer {
-        Decoded::Done(figures) => done(figures.errors, figures.marked, figures.bits),
-        Decoded::BadSetting => refused(1),
-        Decoded::BadLength => refused(2),
-        Decoded::BadSymbol => refused(3),
-        Decoded::BeyondReach => refused(4),
+    let figures = figures_of(answer);
+    Outcome {
+        number: number_of(answer),
+        errors: figures.errors,
+        marked: figures.marked,
+        bits: figures.bits,
     }
 }
 

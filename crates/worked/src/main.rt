@@ -4,7 +4,6 @@ mod expect;
 mod heard;
 mod limits;
 mod reach;
-mod same;
 mod say;
 mod slots;
 mod table;

@@ -1,5 +1,5 @@
 // The delay line: the bytes of P12 from end to end, and the limit of its n.
-use crate::same::same;
+use check::same;
 
 // P12: what leaves the sender is fed to the receiver.
 pub fn comes_back() -> bool {

@@ -7,9 +7,9 @@ use crate::expect::refused;
 use crate::expect::setting;
 use crate::heard::is_newer;
 use crate::heard::is_older;
-use crate::same::same;
 use crate::say::say_item;
 use crate::slots::comes_back;
+use check::same;
 use field::Element;
 use word::Setting;
 
