@@ -6,7 +6,7 @@ use mathlib.Core.Logic.{_≢_}
 use Prim.Native.Nat.{ℕ, zero, suc, _<_}
 use native.Mathlib.Omega.{arith}
 use lib.Dec.{T}
-use Rattle.algebra.specs.Sets.{put, put-yes, put-no}
+use Rattle.algebra.specs.Sets.{put, put-elim, put-yes, put-no}
 
 -- what the test decides must hold, or the call is refused with this number
 unfoldable pub need : {P : Type 0} → Dec P → ℕ → ℕ → ℕ
@@ -41,6 +41,11 @@ pub need-zero : {P : Type 0} (w : Dec P) (a b : ℕ) → 0 < a → need w a b �
 unfolding need
 need-zero (yes p) a b h e = (p, sym (put-yes (yes p) b a p) ∙ e)
 need-zero (no p) a b h e = absurd (omega (arith, put-no (no p) b a p))
+
+-- what holds of a need's number and of what comes after it holds either way
+pub need-either : {P : Type 0} (w : Dec P) (a b : ℕ) (B : ℕ → Type 0) → B a → B b → B (need w a b)
+unfolding need
+need-either w a b B h k = put-elim w b a B (λ p. k) (λ p. h)
 
 pub first-none : (a b x : ℕ) → a ≡ 0 → x ≡ b → x ≡ first a b
 first-none a b x e g = rw e g

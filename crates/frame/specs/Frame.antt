@@ -5,13 +5,15 @@ use mathlib.Core.Bool.{Bool, true, false, _&&_, not}
 use mathlib.Core.List.{List, [], _∷_, _++_}
 use mathlib.Core.Option.{Option, some, none, Option·getD}
 use Prim.Native.Nat.{ℕ, _+_, _-_, _*_, _/_, _%_}
+use native.Mathlib.Decide.{ℕ-discrete, decLe}
 use lib.ListN.{length, take, drop, replicate}
 use lib.Dec.{leb, ltb, eqb}
 use Rattle.algebra.specs.Tests.{if_then_else_, at, each, below, firstBelow}
 use Rattle.algebra.specs.Lists.{tabulate, joined, part}
+use Rattle.algebra.specs.Refusal.{need, ifZero, passes}
 use Rattle.word.specs.Setting.{allowed, messageSize}
 use Rattle.word.specs.Code.{encoded, corrected}
-use Rattle.word.specs.Answers.{noFigures, figures, unless}
+use Rattle.word.specs.Answers.{noFigures, figures}
 use Rattle.word.specs.declared.Setting.{Setting}
 use Rattle.word.specs.declared.Figures.{Figures}
 use Rattle.interleave.specs.Block.{spread}
@@ -105,15 +107,15 @@ sentAs k = if eqb k 0 then S.Done else if eqb k 1 then S.BadSetting else if eqb 
 -- checked in the order 1, 2, 6; 0 where all are passed
 unfoldable pub sendRefusal : Framing → (payload slots : List ℕ) → ℕ
 sendRefusal f payload slots =
-    if not (allowedFrame f) then 1 else
-    if not (eqb (length slots) (slotCount f)) then 2 else
-    if not (leb (length payload) (areaSize f - 4)) then 6 else
-    0
+    need (passes (allowedFrame f)) 1
+    (need (ℕ-discrete (length slots) (slotCount f)) 2
+    (need (decLe (length payload) (areaSize f - 4)) 6 0))
 
 -- a refusal leaves the slots
 unfoldable pub sending : Framing → (payload : List ℕ) (sequence : ℕ) (slots : List ℕ) → SendOutcome
 sending f payload sequence slots =
-    unless (sendRefusal f payload slots) (λ k. record { number = k; slots = slots }) (record { number = 0; slots = slotsSent f payload sequence })
+    let k = sendRefusal f payload slots in
+    ifZero k (record { number = 0; slots = slotsSent f payload sequence }) (record { number = k; slots = slots })
 
 -- ---- receiving
 
@@ -190,14 +192,15 @@ decodedFrame f slots marks =
 -- checked in the order 1, 2, 3; 0 where all are passed
 unfoldable pub receiveRefusal : Framing → (slots marks area : List ℕ) → ℕ
 receiveRefusal f slots marks area =
-    if not (allowedFrame f) then 1 else
-    if not (eqb (length slots) (slotCount f) && eqb (length marks) (slotCount f) && eqb (length area) (areaSize f)) then 2 else
-    if not (below 2 marks) then 3 else
-    0
+    need (passes (allowedFrame f)) 1
+    (need (ℕ-discrete (length slots) (slotCount f)) 2 (need (ℕ-discrete (length marks) (slotCount f)) 2 (need (ℕ-discrete (length area) (areaSize f)) 2
+    (need (passes (below 2 marks)) 3 0))))
 
 -- these refusals leave the area
 unfoldable pub receiving : Framing → (slots marks area : List ℕ) → ReceiveOutcome
-receiving f slots marks area = unless (receiveRefusal f slots marks area) (λ k. refusedFrame k 0 area) (decodedFrame f slots marks)
+receiving f slots marks area =
+    let k = receiveRefusal f slots marks area in
+    ifZero k (decodedFrame f slots marks) (refusedFrame k 0 area)
 
 -- ---- the code's answer in this paper's terms
 

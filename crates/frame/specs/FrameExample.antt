@@ -1,15 +1,16 @@
 -- Document 01, "Worked table": the frame of the bench reader's example, as it was sent and as it was received.
 -- Assumes nothing.
-use mathlib.Core.Path.{_≡_, refl}
+use mathlib.Core.Path.{_≡_, refl, sym, _∙_}
 use mathlib.Core.List.{List, [], _∷_}
 use mathlib.Core.Option.{some}
 use Prim.Native.Nat.{ℕ}
 use lib.Count.{ones, onesIn}
-use lib.Dec.{T}
+use lib.Dec.{T, lit≤}
 use lib.ListN.{replicate}
 use Rattle.algebra.specs.Xor.{_⊕_}
 use Rattle.algebra.specs.Tests.{total, each, below, firstBelow}
 use Rattle.algebra.specs.Lists.{tabulate, joined}
+use Rattle.algebra.specs.Refusal.{new}
 use Rattle.field.specs.Field.{times, reduce, product, power}
 use Rattle.field.specs.Answers.{isField}
 use Rattle.word.specs.Setting.{allowed}
@@ -17,11 +18,14 @@ use Rattle.word.specs.Word.{valueFrom, errorOf, errors, marked, bits}
 use Rattle.word.specs.Codeword.{isCodeword, qualifies}
 use Rattle.word.specs.Code.{encoded}
 use Rattle.word.specs.Code.Laws.{corrected-only, encoded-only}
-use Rattle.word.specs.Answers.{noFigures, unless}
+use Rattle.word.specs.Answers.{noFigures}
 use Rattle.word.specs.declared.Setting.{Setting}
 use Rattle.word.specs.declared.Figures.{Figures}
 use Rattle.interleave.specs.Slots.{spread-rule, word-rule}
-use Rattle.frame.specs.Frame.{allowedFrame, areaSent, wordSent, slotsSent, sendRefusal, sending, correctedWord, messageOf, figuresAt, beyond, areaReceived, figuresReceived, zerosBefore, trailerGood, payloadIn, settled, decodedFrame, receiveRefusal, receiving}
+use Rattle.frame.specs.Frame.{allowedFrame, areaSent, wordSent, slotsSent, sending, correctedWord, messageOf, figuresAt, beyond, areaReceived, figuresReceived, zerosBefore, trailerGood, payloadIn, settled, decodedFrame, receiving}
+use Rattle.frame.specs.Frame.Limits.{FrameAllowed, frame-kept}
+use Rattle.frame.specs.Checks.{receive-passes}
+use Rattle.frame.specs.Sending.{send-done}
 use Rattle.frame.specs.declared.setting.Framing.{Framing}
 
 -- J = 2, n = 5, r = 2, b = 0
@@ -34,6 +38,10 @@ five = record { m = 8; n = 5; r = 2; b = 0 }
 allowed-five : T (allowed five)
 unfolding allowed isField
 allowed-five = tt
+
+example-allowed : FrameAllowed example
+unfolding allowedFrame allowed isField
+example-allowed = frame-kept example refl
 
 -- ---- sent: payload 65, sequence number 258
 
@@ -49,8 +57,10 @@ abbrev pub slotsOut : List ℕ
 slotsOut = 0 ∷ 0 ∷ 65 ∷ 2 ∷ 1 ∷ 1 ∷ 217 ∷ 13 ∷ 153 ∷ 14 ∷ []
 
 pub sent-example : sending example (65 ∷ []) 258 (replicate 10 0) ≡ record { number = 0; slots = slotsOut }
-unfolding sending unless sendRefusal allowedFrame allowed isField slotsSent wordSent areaSent joined tabulate
-sent-example = rw (encoded-0, encoded-1, spread-rule)
+unfolding slotsSent wordSent areaSent joined tabulate
+sent-example =
+    sym (send-done example (65 ∷ []) 258 (replicate 10 0) (record { limits = example-allowed; slots-size = refl; fits = lit≤ tt }) slotsOut
+    (rw (encoded-0, encoded-1, spread-rule)) .outcome)
 
 -- ---- received: slots 2 and 3 were 65 and 2
 
@@ -89,5 +99,8 @@ pub received-example : receiving example slotsIn (replicate 10 0) (replicate 6 0
   area = 0 ∷ 65 ∷ 1 ∷ 0 ∷ 2 ∷ 1 ∷ [];
   payload = 65 ∷ [];
 }
-unfolding receiving unless receiveRefusal decodedFrame allowedFrame allowed isField below settled trailerGood zerosBefore each payloadIn
-received-example = rw (within-reach, area, found)
+unfolding receiving decodedFrame below settled trailerGood zerosBefore each payloadIn
+received-example =
+    let passed = receive-passes example slotsIn (replicate 10 0) (replicate 6 0)
+    (record { limits = example-allowed; slots-size = refl; marks-size = refl; marks-small = tt; area-size = refl }) in
+    sym (new _ _ _ (sym passed)) ∙ rw (within-reach, area, found)

@@ -7,7 +7,7 @@ use Prim.Native.Nat.{ℕ, _+_, _-_, _≤_, _<_}
 use native.Mathlib.Omega.{arith}
 use borrow.Author.Tests.{lt-ltb, le-ltb}
 use lib.ListN.{length, replicate}
-use Rattle.word.specs.Met.{unless-refused, unless-not}
+use Rattle.algebra.specs.Refusal.{new, kept}
 use Rattle.word.specs.declared.Figures.{Figures}
 use Rattle.frame.specs.Frame.{areaSize, beyond, areaReceived, figuresReceived, twoAt, trailerGood, payloadOf, receiveOutcome, refusedFrame, refusedWith, settled, decodedFrame, receiveRefusal, receiving}
 use Rattle.frame.specs.Promises.{Receives}
@@ -49,11 +49,11 @@ module _ (f : Framing) (slots marks : List ℕ) where
 module _ (f : Framing) (slots marks area : List ℕ) where
   pub receiving-refused : (k : ℕ) → k ≡ receiveRefusal f slots marks area → 0 < k → receiving f slots marks area ≡ refusedFrame k 0 area
   unfolding receiving
-  receiving-refused k e h = sym (unless-refused (λ n. refusedFrame n 0 area) _ k _ e h)
+  receiving-refused k e h = rw e (sym (kept (receiveRefusal f slots marks area) _ _ (omega arith)))
 
   pub receive-refused : (k : ℕ) → k ≡ receiveRefusal f slots marks area → 0 < k → Receives f slots marks area (refusedWith k 0) area
   receive-refused k e h = record { outcome = rw e (receive-numbered f slots marks area (rw e at h) area) ∙ sym (receiving-refused k e h) }
 
   pub receive-decoded : ReceiveChecked f slots marks area → (r : Received) (left : List ℕ) → receiveOutcome r left ≡ decodedFrame f slots marks → Receives f slots marks area r left
   unfolding receiving
-  receive-decoded c r left e = record { outcome = e ∙ unless-not _ _ _ (receive-passes f slots marks area c) }
+  receive-decoded c r left e = record { outcome = e ∙ new _ _ _ (sym (receive-passes f slots marks area c)) }

@@ -10,7 +10,8 @@ use Rattle.word.specs.Setting.{messageSize, allowed-yes}
 use Rattle.word.specs.Code.{encoded}
 use Rattle.word.specs.Promises.{Encodes}
 use Rattle.word.specs.Refusals.{MessageChecked}
-use Rattle.word.specs.Met.{unless-refused, unless-not, encodes-gives}
+use Rattle.algebra.specs.Refusal.{new, kept}
+use Rattle.word.specs.Met.{encodes-gives}
 use Rattle.word.specs.declared.Encoded.{Encoded}
 use Rattle.interleave.specs.Slots.{PutsWord, Putting, putting-none, putting-more, putting-all}
 use Rattle.frame.specs.Frame.{wordSetting, areaSize, areaByte, areaSent, wordSent, slotsSent, sentAs, sendRefusal, sending}
@@ -81,8 +82,8 @@ module _ (f : Framing) (payload : List ℕ) (sequence : ℕ) where
 module _ (f : Framing) (payload : List ℕ) (sequence : ℕ) (slots : List ℕ) where
   pub send-refused : (k : ℕ) → k ≡ sendRefusal f payload slots → 0 < k → Sends f payload sequence slots (sentAs k) slots
   unfolding sending
-  send-refused k e h = record { outcome = (rw (e, send-numbered f payload slots)) ∙ unless-refused _ _ k _ e h }
+  send-refused k e h = record { outcome = rw (e, send-numbered f payload slots) (kept (sendRefusal f payload slots) _ _ (omega arith)) }
 
   pub send-done : SendChecked f payload slots → (left : List ℕ) → left ≡ slotsSent f payload sequence → Sends f payload sequence slots Done left
   unfolding sending
-  send-done c left e = record { outcome = rw e (unless-not _ _ _ (send-passes f payload slots c)) }
+  send-done c left e = record { outcome = rw e (new _ _ _ (sym (send-passes f payload slots c))) }

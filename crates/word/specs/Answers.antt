@@ -1,13 +1,13 @@
 -- Document 01, "Numbers a call can answer": this paper's number and values for each answer, and what encoding and decoding answer and
 -- leave, for every input. Each argument stands where it stands in the call.
 -- Assumes nothing.
-use mathlib.Core.Bool.{Bool, _&&_, not}
 use mathlib.Core.Option.{Option, some, none}
 use mathlib.Core.List.{List}
-use Prim.Native.Nat.{ℕ, zero, suc, _^_}
+use Prim.Native.Nat.{ℕ, _^_}
+use native.Mathlib.Decide.{ℕ-discrete}
 use lib.ListN.{length, take}
-use lib.Dec.{eqb}
-use Rattle.algebra.specs.Tests.{if_then_else_, below}
+use Rattle.algebra.specs.Tests.{below}
+use Rattle.algebra.specs.Refusal.{need, ifZero, passes}
 use Rattle.word.specs.Setting.{allowed, messageSize}
 use Rattle.word.specs.Word.{errors, marked, bits}
 use Rattle.word.specs.Code.{encoded, corrected}
@@ -63,25 +63,20 @@ decodeOutcome d left = record { number = numberOf d; figures = figuresOf d; word
 abbrev pub refused : ℕ → List ℕ → DecodeOutcome
 refused k lent = record { number = k; figures = noFigures; word = lent }
 
--- ---- the checks, in the order 1, 2, 3; 0 where all are passed
-
-unfoldable pub refusal : Bool → Bool → Bool → ℕ
-refusal setting lengths symbols = if not setting then 1 else if not lengths then 2 else if not symbols then 3 else 0
-
--- what a call does unless a check refuses it
-unfoldable pub unless : {O : Type 0} → ℕ → (ℕ → O) → O → O
-unless zero refuse done = done
-unless (suc k) refuse done = refuse (suc k)
-
 -- ---- encoding
 
+-- checked in the order 1, 2, 3; 0 where all are passed
 unfoldable pub encodeRefusal : Setting → (message word : List ℕ) → ℕ
 encodeRefusal s message word =
-    refusal (allowed s) (eqb (length message) (messageSize s) && eqb (length word) (s .n)) (below (2 ^ s .m) message)
+    need (passes (allowed s)) 1
+    (need (ℕ-discrete (length message) (messageSize s)) 2 (need (ℕ-discrete (length word) (s .n)) 2
+    (need (passes (below (2 ^ s .m) message)) 3 0)))
 
+-- a refusal leaves the word
 unfoldable pub encoding : Setting → (message word : List ℕ) → EncodeOutcome
 encoding s message word =
-    unless (encodeRefusal s message word) (λ k. record { number = k; word = word }) (record { number = 0; word = encoded s message })
+    let k = encodeRefusal s message word in
+    ifZero k (record { number = 0; word = encoded s message }) (record { number = k; word = word })
 
 -- ---- decoding
 
@@ -96,13 +91,14 @@ placed place marks received lent (some c) = record { number = 0; figures = figur
 
 -- what a received word is answered where its checks give this number
 unfoldable pub answering : Setting → (received marks : List ℕ) → ℕ → (List ℕ → List ℕ) → (lent : List ℕ) → DecodeOutcome
-answering s received marks number place lent =
-    unless number (λ k. refused k lent) (placed place marks received lent (corrected s marks received))
+answering s received marks number place lent = ifZero number (placed place marks received lent (corrected s marks received)) (refused number lent)
 
 -- both lengths are n; every symbol is below 2^m, and every mark 0 or 1
 unfoldable pub decodeRefusal : Setting → (received marks : List ℕ) → ℕ
 decodeRefusal s received marks =
-    refusal (allowed s) (eqb (length received) (s .n) && eqb (length marks) (s .n)) (below (2 ^ s .m) received && below 2 marks)
+    need (passes (allowed s)) 1
+    (need (ℕ-discrete (length received) (s .n)) 2 (need (ℕ-discrete (length marks) (s .n)) 2
+    (need (passes (below (2 ^ s .m) received)) 3 (need (passes (below 2 marks)) 3 0))))
 
 -- in place: the corrected word is written over the received one
 unfoldable pub decoding : Setting → (received marks : List ℕ) → DecodeOutcome
@@ -111,8 +107,7 @@ decoding s received marks = answering s received marks (decodeRefusal s received
 -- and the part's length is k
 unfoldable pub partRefusal : Setting → (received marks part : List ℕ) → ℕ
 partRefusal s received marks part =
-    refusal (allowed s) (eqb (length part) (messageSize s) && (eqb (length received) (s .n) && eqb (length marks) (s .n)))
-    (below (2 ^ s .m) received && below 2 marks)
+    need (passes (allowed s)) 1 (need (ℕ-discrete (length part) (messageSize s)) 2 (decodeRefusal s received marks))
 
 -- the received word only read: the corrected word's k message symbols are written to the lent part
 unfoldable pub decodingPart : Setting → (received marks part : List ℕ) → DecodeOutcome

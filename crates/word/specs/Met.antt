@@ -3,14 +3,15 @@
 use mathlib.Core.Path.{_≡_, refl, sym, ap, _∙_}
 use mathlib.Core.List.{List}
 use mathlib.Core.Option.{some, none}
-use Prim.Native.Nat.{ℕ, zero, suc, _<_}
-use native.Mathlib.Nat.{not-suc-le-zero}
+use Prim.Native.Nat.{ℕ, _<_}
+use native.Mathlib.Omega.{arith}
 use lib.ListN.{length, take}
+use Rattle.algebra.specs.Refusal.{new, kept}
 use Rattle.word.specs.Setting.{messageSize}
 use Rattle.word.specs.Code.{encoded, corrected}
-use Rattle.word.specs.Answers.{numberOf, figuresOf, encodedNumber, noFigures, EncodeOutcome, encodeOutcome, decodeOutcome, refused, unless, encodeRefusal, encoding, figures, placed, answering, decodeRefusal, decoding, partRefusal, decodingPart}
+use Rattle.word.specs.Answers.{numberOf, figuresOf, encodedNumber, noFigures, EncodeOutcome, encodeOutcome, decodeOutcome, refused, encodeRefusal, encoding, figures, placed, answering, decodeRefusal, decoding, partRefusal, decodingPart}
 use Rattle.word.specs.Promises.{Encodes, Decodes, DecodesPart, encodes-once}
-use Rattle.word.specs.Refusals.{MessageChecked, message-passes, Checked, passes, part-sized}
+use Rattle.word.specs.Refusals.{MessageChecked, message-passes, Checked, passes, part-passes}
 use Rattle.word.specs.declared.Setting.{Setting}
 use Rattle.word.specs.declared.Figures.{Figures}
 use Rattle.word.specs.declared.Decoded.{Decoded}
@@ -18,29 +19,16 @@ use Rattle.word.specs.declared.Decoded.the-variants.{Done, BeyondReach}
 use Rattle.word.specs.declared.Encoded.{Encoded}
 use Rattle.word.specs.declared.Encoded.the-variants as E
 
-module _ {O : Type 0} (refuse : ℕ → O) (done : O) where
-  pub unless-refused : (k z : ℕ) → k ≡ z → 0 < k → refuse k ≡ unless z refuse done
-  unfolding unless
-  unless-refused k z e h = stays k h ∙ ap (λ (y : ℕ). unless y refuse done) e
-    where
-      stays : (j : ℕ) → 0 < j → refuse j ≡ unless j refuse done
-      stays zero h = absurd (not-suc-le-zero h)
-      stays (suc j) h = refl
-
-  pub unless-not : (z : ℕ) → 0 ≡ z → done ≡ unless z refuse done
-  unfolding unless
-  unless-not z e = rw (← e)
-
 -- ---- encoding
 
 module _ (s : Setting) (message word : List ℕ) where
   pub encode-refused : (k : ℕ) (d : Encoded) → k ≡ encodeRefusal s message word → 0 < k → encodedNumber d ≡ k → Encodes s message word d word
   unfolding encoding
-  encode-refused k d e h r = record { outcome = rw r (unless-refused _ _ k _ e h) }
+  encode-refused k d e h r = record { outcome = rw (r, e) (kept (encodeRefusal s message word) _ _ (omega arith)) }
 
   pub encode-done : MessageChecked s message word → (w : List ℕ) → encoded s message ≡ w → Encodes s message word E.Done w
   unfolding encoding
-  encode-done c w e = record { outcome = rw (← e) (unless-not _ _ _ (message-passes s message word c)) }
+  encode-done c w e = record { outcome = rw (← e) (new (encodeRefusal s message word) _ _ (sym (message-passes s message word c))) }
 
   -- once the checks are passed, every answer that meets the promise is Done, and the word is the encoding
   pub encodes-gives : MessageChecked s message word → {d : Encoded} {left : List ℕ} → Encodes s message word d left → (d ≡ E.Done) × (left ≡ encoded s message)
@@ -62,12 +50,12 @@ refuses-outcome k d w r = rw (r .number, r .none)
 module _ (s : Setting) (received marks : List ℕ) (place : List ℕ → List ℕ) (lent : List ℕ) where
   pub answering-refused : (k z : ℕ) (d : Decoded) → k ≡ z → 0 < k → Refuses k d → decodeOutcome d lent ≡ answering s received marks z place lent
   unfolding answering
-  answering-refused k z d e h r = refuses-outcome k d lent r ∙ unless-refused (λ k. refused k lent) _ k z e h
+  answering-refused k z d e h r = refuses-outcome k d lent r ∙ rw e (kept z _ _ (omega arith))
 
   module _ (z : ℕ) (e : 0 ≡ z) where
     looked-at : placed place marks received lent (corrected s marks received) ≡ answering s received marks z place lent
     unfolding answering
-    looked-at = unless-not _ _ z e
+    looked-at = new z _ _ (sym e)
 
     pub answering-found : (w : List ℕ) (f : Figures) → corrected s marks received ≡ some w → f ≡ figures marks received w
         → decodeOutcome (Done f) (place w) ≡ answering s received marks z place lent
@@ -109,8 +97,8 @@ module _ (s : Setting) (received marks part : List ℕ) where
     pub part-found : (w : List ℕ) (f : Figures) → corrected s marks received ≡ some w → f ≡ figures marks received w
         → DecodesPart s received marks part (Done f) (take (messageSize s) w)
     unfolding decodingPart
-    part-found w f g h = record { outcome = answering-found s received marks (take (messageSize s)) part _ (passes s received marks c ∙ part-sized s received marks part n) w f g h }
+    part-found w f g h = record { outcome = answering-found s received marks (take (messageSize s)) part _ (part-passes s received marks part n c) w f g h }
 
     pub part-lost : corrected s marks received ≡ none → DecodesPart s received marks part BeyondReach part
     unfolding decodingPart
-    part-lost g = record { outcome = answering-none s received marks _ part _ (passes s received marks c ∙ part-sized s received marks part n) g }
+    part-lost g = record { outcome = answering-none s received marks _ part _ (part-passes s received marks part n c) g }

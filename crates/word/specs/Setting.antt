@@ -97,9 +97,9 @@ at-most s a = elim (ℕ-discrete (s .m) 3) [
       omega arith
 ]
 
-pub has-room : (s : Setting) → allowed s ≡ true → s .r < s .n
-has-room s a = limits s (rw a tt) .room
+pub has-room : (s : Setting) → T (allowed s) → s .r < s .n
+has-room s ok = limits s ok .room
 
 -- a test of symbols against the code's count of them is the paper's
-pub own-symbols : (s : Setting) → allowed s ≡ true → (q : ℕ) (w : List ℕ) (b : Bool) → q ≡ 2 ^ wide (s .m) → below q w ≡ b → below (2 ^ s .m) w ≡ b
-own-symbols s a q w b e f = ap (λ (k : ℕ). below k w) (sym (e ∙ ap (λ (k : ℕ). 2 ^ k) (named (s .m) (limits s (rw a tt) .field)))) ∙ f
+pub own-symbols : (s : Setting) → T (allowed s) → (q : ℕ) (w : List ℕ) → q ≡ 2 ^ wide (s .m) → below q w ≡ below (2 ^ s .m) w
+own-symbols s ok q w e = ap (λ (k : ℕ). below k w) (e ∙ ap (λ (k : ℕ). 2 ^ k) (named (s .m) (limits s ok .field)))

@@ -5,15 +5,15 @@ use mathlib.Core.Bool.{Bool, true, false}
 use mathlib.Core.List.{List}
 use mathlib.Core.Logic.{_≢_}
 use mathlib.Core.Option.{Option, some, none}
-use Prim.Native.Nat.{ℕ, _+_, _*_, _≤_}
+use Prim.Native.Nat.{ℕ, zero, suc, _+_, _*_, _≤_}
 use native.Mathlib.Nat.{mul-mod-left}
 use native.Mathlib.Omega.{arith}
-use lib.Dec.{lit≤, lit<}
+use lib.Dec.{T, lit≤, lit<}
 use lib.ListN.{length}
 use Rattle.field.specs.Answers.{isField}
 use Rattle.word.specs.Setting.{Allowed, allowed, allowed-yes, allowed-no}
 use Rattle.word.specs.Code.{corrected}
-use Rattle.word.specs.Answers.{EncodeOutcome, DecodeOutcome, refusal, unless, encodeRefusal, encoding, placed, answering, decodeRefusal, decoding, partRefusal, decodingPart}
+use Rattle.word.specs.Answers.{EncodeOutcome, DecodeOutcome, encodeRefusal, encoding, placed, answering, decodeRefusal, decoding, partRefusal, decodingPart}
 use Rattle.word.specs.Promises.{Encodes, Decodes, DecodesPart, encodes-once, decodes-once, decodes-part-once}
 use Rattle.word.specs.Refusals.{encode-setting, decode-setting, part-setting}
 use Rattle.word.specs.Met.{encode-refused, decode-refused, part-refused}
@@ -22,7 +22,7 @@ use Rattle.word.specs.declared.Encoded.{Encoded}
 use Rattle.word.specs.declared.Encoded.the-variants as E
 use Rattle.word.specs.declared.Decoded.{Decoded}
 use Rattle.word.specs.declared.Decoded.the-variants.{BadSetting}
-use Rattle.algebra.specs.Refusal.{need-no}
+use Rattle.algebra.specs.Refusal.{need, ifZero, need-yes, need-no, need-either}
 use Rattle.interleave.specs.Setting as line
 use Rattle.interleave.specs.Setting.{memorySize, lineAt, lineRefusal, receiverRefusal, receiveRefusal}
 use Rattle.interleave.specs.Promises.{ready, freshSender, freshReceiver, sendStep, receiveStep, sendRun, receiveRun, FreshSender, FreshReceiver, SendStep, SendRun, ReceiveStep, ReceiveRun}
@@ -79,13 +79,34 @@ pub record Limits : Type 0 where
 
 -- ---- laws: the word code
 
--- an outcome that passes the setting's check, and whose own number is not 1
-past : {O : Type 0} (number : O → ℕ) (refuse : ℕ → O) → ((k : ℕ) → number (refuse k) ≡ k) → (l p : Bool) (o : O) → number o ≢ 1
-    → number (unless (refusal true l p) refuse o) ≢ 1
-unfolding refusal unless
-past number refuse f false p o h e = omega (arith, f 2)
-past number refuse f true false o h e = omega (arith, f 3)
-past number refuse f true true o h e = h e
+-- a setting that is allowed is not refused 1
+need-past : {P : Type 0} (w : Dec P) (rest : ℕ) → P → rest ≢ 1 → need w 1 rest ≢ 1
+need-past w rest p r e = r (need-yes w 1 rest rest p refl ∙ e)
+
+module _ (s : Setting) (ok : T (allowed s)) where
+  abbrev other : ℕ → Type 0
+  other k = k ≢ 1
+
+  encode-past : (message word : List ℕ) → encodeRefusal s message word ≢ 1
+  unfolding encodeRefusal
+  encode-past message word =
+      need-past _ _ ok (need-either _ 2 _ other (λ e. omega arith) (need-either _ 2 _ other (λ e. omega arith) (need-either _ 3 0 other (λ e. omega arith) λ e. omega arith)))
+
+  decode-past : (received marks : List ℕ) → decodeRefusal s received marks ≢ 1
+  unfolding decodeRefusal
+  decode-past received marks =
+      need-past _ _ ok
+      (need-either _ 2 _ other (λ e. omega arith)
+      (need-either _ 2 _ other (λ e. omega arith) (need-either _ 3 _ other (λ e. omega arith) (need-either _ 3 0 other (λ e. omega arith) λ e. omega arith))))
+
+  part-past : (received marks part : List ℕ) → partRefusal s received marks part ≢ 1
+  unfolding partRefusal
+  part-past received marks part = need-past _ _ ok (need-either _ 2 _ other (λ e. omega arith) (decode-past received marks))
+
+-- an outcome is 1 only where its checks are, or what they let through
+past : {O : Type 0} (number : O → ℕ) (k : ℕ) (done refused : O) → k ≢ 1 → number done ≢ 1 → number refused ≡ k → number (ifZero k done refused) ≢ 1
+past number zero done refused h d g e = d e
+past number (suc k) done refused h d g e = h (sym g ∙ e)
 
 not-one : _≢_ {A = ℕ} 0 1
 not-one e = omega arith
@@ -95,12 +116,17 @@ corrects place marks received lent none e = omega arith
 corrects place marks received lent (some c) e = omega arith
 
 stands : (s : Setting) → true ≡ allowed s → Stands s
-unfolding encodeRefusal encoding answering decodeRefusal decoding partRefusal decodingPart
-stands s a = record {
-  encode = λ message held left d p e. past (λ (o : EncodeOutcome). o .number) _ (λ k. refl) _ _ _ not-one (rw (← a, e) at (sym (ap (λ (o : EncodeOutcome). o .number) (p .outcome))));
-  decode = λ received marks left d p e. past (λ (o : DecodeOutcome). o .number) _ (λ k. refl) _ _ _ (corrects _ _ _ _ (corrected s marks received)) (rw (← a, e) at (sym (ap (λ (o : DecodeOutcome). o .number) (p .outcome))));
-  decode-part = λ received marks part left d p e. past (λ (o : DecodeOutcome). o .number) _ (λ k. refl) _ _ _ (corrects _ _ _ _ (corrected s marks received)) (rw (← a, e) at (sym (ap (λ (o : DecodeOutcome). o .number) (p .outcome))));
-}
+unfolding encoding answering decoding decodingPart
+stands s a =
+    let ok : T (allowed s) = rw (← a) tt in
+    record {
+      encode = λ message held left d p e. past (λ (o : EncodeOutcome). o .number) _ _ _ (encode-past s ok message held) not-one refl
+          (rw e at (sym (ap (λ (o : EncodeOutcome). o .number) (p .outcome))));
+      decode = λ received marks left d p e. past (λ (o : DecodeOutcome). o .number) _ _ _ (decode-past s ok received marks) (corrects _ _ _ _ (corrected s marks received)) refl
+          (rw e at (sym (ap (λ (o : DecodeOutcome). o .number) (p .outcome))));
+      decode-part = λ received marks part left d p e. past (λ (o : DecodeOutcome). o .number) _ _ _ (part-past s ok received marks part) (corrects _ _ _ _ (corrected s marks received)) refl
+          (rw e at (sym (ap (λ (o : DecodeOutcome). o .number) (p .outcome))));
+    }
 
 refused : (s : Setting) → (Allowed s → ⊥) → Refused s
 refused s h =

@@ -3,6 +3,7 @@
 -- Assumes nothing.
 use mathlib.Core.Path.{refl}
 use mathlib.Core.List.{[], _∷_}
+use native.Mathlib.Decide.{ℕ-discrete}
 use lib.Count.{ones, onesIn}
 use lib.Dec.{T, lit≤, lit<}
 use Rattle.algebra.specs.Xor.{_⊕_}
@@ -15,7 +16,9 @@ use Rattle.field.specs.declared.Element.the-variants.{Is}
 use Rattle.word.specs.Setting.{allowed}
 use Rattle.word.specs.Word.{valueFrom, errorOf, errors, marked, bits}
 use Rattle.word.specs.Codeword.{isCodeword, qualifies}
-use Rattle.word.specs.Answers.{refusal, decodeRefusal}
+use Rattle.algebra.specs.Sets.{put}
+use Rattle.algebra.specs.Refusal.{need}
+use Rattle.word.specs.Answers.{decodeRefusal}
 use Rattle.word.specs.declared.Setting.{Setting}
 use Rattle.word.specs.declared.Decoded.the-variants.{BeyondReach}
 use Rattle.rings.specs.Rings.{ring, tri}
@@ -76,7 +79,7 @@ line224 = record { branches = (lit≤ tt, lit≤ tt); unit = (lit≤ tt, lit≤ 
 -- ---- the rest is computed
 
 pub worked-table : WorkedTable
-unfolding productOf isElement refusal decodeRefusal allowed isField below qualifies isCodeword each valueFrom errorOf errors marked bits total ones onesIn _⊕_ times reduce product power transposed tabulate answer memory position lineOut lineKept ring tri period common compared
+unfolding productOf isElement need put ℕ-discrete decodeRefusal allowed isField below qualifies isCodeword each valueFrom errorOf errors marked bits total ones onesIn _⊕_ times reduce product power transposed tabulate answer memory position lineOut lineKept ring tri period common compared
 worked-table = record {
   p1 = λ r e. product-once 3 2 5 r (Is 1) e refl;
   p2 = λ r e. product-once 8 128 2 r (Is 29) e refl;

@@ -1,11 +1,12 @@
--- `receive_refusal` meets its contract: each return is the first check that fails, or, at the end, none does.
+-- `receive_refusal` meets its contract: each return is the first need that is not met, or, at the end, all are.
 -- Assumes nothing.
-use mathlib.Core.Path.{sym, _∙_}
+use mathlib.Core.Path.{refl}
 use native.Mathlib.Omega.{arith}
 use borrow.Author.Needs.{needs}
-use borrow.Author.Tests.{not-true, not-false}
+use Rattle.algebra.specs.Tests.{passed}
+use Rattle.algebra.specs.Refusal.{need-yes, need-no, test-yes, test-no}
 use Rattle.frame.specs.Frame.Limits.{frame-kept, area-few, slots-few}
-use Rattle.frame.specs.Checks.{receive-setting, receive-slots, receive-marks, receive-area, receive-mark, receive-none}
+use Rattle.frame.specs.Frame.{receiveRefusal}
 use Rattle.frame.proofs.receiver.receive_refusal.Statement.{statement}
 use Rattle.frame.proofs.receiver.receive_refusal.Tie as tie
 
@@ -13,66 +14,72 @@ is-allowed-requires : tie.Need-is-allowed-requires
 is-allowed-requires c κs = search needs
 
 returns : tie.Need-returns
-returns c = receive-setting _ _ _ _ (sym (c .before .is-allowed .ensures) ∙ not-true _ (c .if1 .taken))
+unfolding receiveRefusal
+returns c = need-no _ _ _ (test-no _ _ (c .before .is-allowed .ensures) (c .if1 .taken))
 
 mul-if2 : tie.Need-mul-if2
 mul-if2 c =
     let allowed = c .before in
-    omega (arith, slots-few _ (frame-kept _ (sym (allowed .before .is-allowed .ensures) ∙ not-false _ (allowed .if1 .left))))
+    omega (arith, slots-few _ (frame-kept _ (passed _ (test-yes _ _ (allowed .before .is-allowed .ensures) (allowed .if1 .left)))))
 
 returns-2 : tie.Need-returns-2
+unfolding receiveRefusal
 returns-2 c =
     let allowed = c .before .before in
-    receive-slots _ _ _ _ (sym (allowed .before .is-allowed .ensures) ∙ not-false _ (allowed .if1 .left)) (c .if2 .taken)
+    need-yes _ _ _ _ (test-yes _ _ (allowed .before .is-allowed .ensures) (allowed .if1 .left)) (need-no _ _ _ (c .if2 .taken))
 
 mul-if3 : tie.Need-mul-if3
 mul-if3 c =
     let allowed = c .before .before .before in
-    omega (arith, slots-few _ (frame-kept _ (sym (allowed .before .is-allowed .ensures) ∙ not-false _ (allowed .if1 .left))))
+    omega (arith, slots-few _ (frame-kept _ (passed _ (test-yes _ _ (allowed .before .is-allowed .ensures) (allowed .if1 .left)))))
 
 returns-3 : tie.Need-returns-3
+unfolding receiveRefusal
 returns-3 c =
     let sized = c .before .before in
     let allowed = sized .before .before in
-    receive-marks _ _ _ _ (sym (allowed .before .is-allowed .ensures) ∙ not-false _ (allowed .if1 .left)) (sized .if2 .left) (c .if3 .taken)
+    need-yes _ _ _ _ (test-yes _ _ (allowed .before .is-allowed .ensures) (allowed .if1 .left)) (need-yes _ _ _ _ (sized .if2 .left) (need-no _ _ _ (c .if3 .taken)))
 
 sub-if4 : tie.Need-sub-if4
 sub-if4 c =
     let allowed = c .before .before .before .before .before in
-    omega (arith, (frame-kept _ (sym (allowed .before .is-allowed .ensures) ∙ not-false _ (allowed .if1 .left))) .words .room)
+    omega (arith, (frame-kept _ (passed _ (test-yes _ _ (allowed .before .is-allowed .ensures) (allowed .if1 .left)))) .words .room)
 
 mul-if4 : tie.Need-mul-if4
 mul-if4 c =
     let allowed = c .before .before .before .before .before .before in
-    omega (arith, area-few _ (frame-kept _ (sym (allowed .before .is-allowed .ensures) ∙ not-false _ (allowed .if1 .left))))
+    omega (arith, area-few _ (frame-kept _ (passed _ (test-yes _ _ (allowed .before .is-allowed .ensures) (allowed .if1 .left)))))
 
 returns-4 : tie.Need-returns-4
+unfolding receiveRefusal
 returns-4 c =
     let marked = c .before .before .before in
     let sized = marked .before .before in
     let allowed = sized .before .before in
-    receive-area _ _ _ _ (sym (allowed .before .is-allowed .ensures) ∙ not-false _ (allowed .if1 .left)) (sized .if2 .left) (marked .if3 .left) (c .if4 .taken)
+    need-yes _ _ _ _ (test-yes _ _ (allowed .before .is-allowed .ensures) (allowed .if1 .left)) (need-yes _ _ _ _ (sized .if2 .left) (need-yes _ _ _ _ (marked .if3 .left) (need-no _ _ _ (c .if4 .taken))))
 
 all-below-requires : tie.Need-all-below-requires
 all-below-requires c κs = search needs
 
 returns-5 : tie.Need-returns-5
+unfolding receiveRefusal
 returns-5 c =
     let whole = c .before .before in
     let marked = whole .before .before .before in
     let sized = marked .before .before in
     let allowed = sized .before .before in
-    receive-mark _ _ _ _ (sym (allowed .before .is-allowed .ensures) ∙ not-false _ (allowed .if1 .left)) (sized .if2 .left) (marked .if3 .left) (whole .if4 .left)
-    (sym (c .before .all-below .ensures) ∙ not-true _ (c .if5 .taken))
+    need-yes _ _ _ _ (test-yes _ _ (allowed .before .is-allowed .ensures) (allowed .if1 .left))
+    (need-yes _ _ _ _ (sized .if2 .left) (need-yes _ _ _ _ (marked .if3 .left) (need-yes _ _ _ _ (whole .if4 .left) (need-no _ _ _ (test-no _ _ (c .before .all-below .ensures) (c .if5 .taken))))))
 
 returns-6 : tie.Need-returns-6
+unfolding receiveRefusal
 returns-6 c =
     let whole = c .before .before in
     let marked = whole .before .before .before in
     let sized = marked .before .before in
     let allowed = sized .before .before in
-    receive-none _ _ _ _ (sym (allowed .before .is-allowed .ensures) ∙ not-false _ (allowed .if1 .left)) (sized .if2 .left) (marked .if3 .left) (whole .if4 .left)
-    (sym (c .before .all-below .ensures) ∙ not-false _ (c .if5 .left))
+    need-yes _ _ _ _ (test-yes _ _ (allowed .before .is-allowed .ensures) (allowed .if1 .left))
+    (need-yes _ _ _ _ (sized .if2 .left) (need-yes _ _ _ _ (marked .if3 .left) (need-yes _ _ _ _ (whole .if4 .left) (need-yes _ _ _ _ (test-yes _ _ (c .before .all-below .ensures) (c .if5 .left)) refl))))
 
 pub receive-refusal-spec : {M : Type 1} → statement M
 receive-refusal-spec =

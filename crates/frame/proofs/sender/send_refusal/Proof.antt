@@ -1,11 +1,12 @@
--- `send_refusal` meets its contract: each return is the first check that fails, or, at the end, none does.
+-- `send_refusal` meets its contract: each return is the first need that is not met, or, at the end, all are.
 -- Assumes nothing.
-use mathlib.Core.Path.{sym, _∙_}
+use mathlib.Core.Path.{refl}
 use native.Mathlib.Omega.{arith}
 use borrow.Author.Needs.{needs}
-use borrow.Author.Tests.{not-true, not-false}
+use Rattle.algebra.specs.Tests.{passed}
+use Rattle.algebra.specs.Refusal.{need-yes, need-no, test-yes, test-no}
 use Rattle.frame.specs.Frame.Limits.{frame-kept, area-few, slots-few}
-use Rattle.frame.specs.Checks.{send-setting, send-length, send-long, send-none}
+use Rattle.frame.specs.Frame.{sendRefusal}
 use Rattle.frame.proofs.sender.send_refusal.Statement.{statement}
 use Rattle.frame.proofs.sender.send_refusal.Tie as tie
 
@@ -13,44 +14,48 @@ is-allowed-requires : tie.Need-is-allowed-requires
 is-allowed-requires c κs = search needs
 
 returns : tie.Need-returns
-returns c = send-setting _ _ _ (sym (c .before .is-allowed .ensures) ∙ not-true _ (c .if1 .taken))
+unfolding sendRefusal
+returns c = need-no _ _ _ (test-no _ _ (c .before .is-allowed .ensures) (c .if1 .taken))
 
 mul-if2 : tie.Need-mul-if2
 mul-if2 c =
     let allowed = c .before in
-    omega (arith, slots-few _ (frame-kept _ (sym (allowed .before .is-allowed .ensures) ∙ not-false _ (allowed .if1 .left))))
+    omega (arith, slots-few _ (frame-kept _ (passed _ (test-yes _ _ (allowed .before .is-allowed .ensures) (allowed .if1 .left)))))
 
 returns-2 : tie.Need-returns-2
+unfolding sendRefusal
 returns-2 c =
     let allowed = c .before .before in
-    send-length _ _ _ (sym (allowed .before .is-allowed .ensures) ∙ not-false _ (allowed .if1 .left)) (c .if2 .taken)
+    need-yes _ _ _ _ (test-yes _ _ (allowed .before .is-allowed .ensures) (allowed .if1 .left)) (need-no _ _ _ (c .if2 .taken))
 
 sub-if3 : tie.Need-sub-if3
 sub-if3 c =
     let allowed = c .before .before .before in
-    omega (arith, (frame-kept _ (sym (allowed .before .is-allowed .ensures) ∙ not-false _ (allowed .if1 .left))) .words .room)
+    omega (arith, (frame-kept _ (passed _ (test-yes _ _ (allowed .before .is-allowed .ensures) (allowed .if1 .left)))) .words .room)
 
 mul-if3 : tie.Need-mul-if3
 mul-if3 c =
     let allowed = c .before .before .before .before in
-    omega (arith, area-few _ (frame-kept _ (sym (allowed .before .is-allowed .ensures) ∙ not-false _ (allowed .if1 .left))))
+    omega (arith, area-few _ (frame-kept _ (passed _ (test-yes _ _ (allowed .before .is-allowed .ensures) (allowed .if1 .left)))))
 
 sub-if3-2 : tie.Need-sub-if3-2
 sub-if3-2 c =
     let allowed = c .before .before .before .before in
-    omega (arith, (frame-kept _ (sym (allowed .before .is-allowed .ensures) ∙ not-false _ (allowed .if1 .left))) .room)
+    omega (arith, (frame-kept _ (passed _ (test-yes _ _ (allowed .before .is-allowed .ensures) (allowed .if1 .left)))) .room)
 
 returns-3 : tie.Need-returns-3
+unfolding sendRefusal
 returns-3 c =
     let sized = c .before .before .before in
     let allowed = sized .before .before in
-    send-long _ _ _ (sym (allowed .before .is-allowed .ensures) ∙ not-false _ (allowed .if1 .left)) (sized .if2 .left) (c .if3 .taken)
+    need-yes _ _ _ _ (test-yes _ _ (allowed .before .is-allowed .ensures) (allowed .if1 .left)) (need-yes _ _ _ _ (sized .if2 .left) (need-no _ _ _ λ l. omega arith))
 
 returns-4 : tie.Need-returns-4
+unfolding sendRefusal
 returns-4 c =
     let sized = c .before .before .before in
     let allowed = sized .before .before in
-    send-none _ _ _ (sym (allowed .before .is-allowed .ensures) ∙ not-false _ (allowed .if1 .left)) (sized .if2 .left) (c .if3 .left)
+    need-yes _ _ _ _ (test-yes _ _ (allowed .before .is-allowed .ensures) (allowed .if1 .left)) (need-yes _ _ _ _ (sized .if2 .left) (need-yes _ _ _ _ (c .if3 .left) refl))
 
 pub send-refusal-spec : {M : Type 1} → statement M
 send-refusal-spec =

@@ -1,11 +1,11 @@
--- `limits::encode_refusal` meets its contract: each return is the first check that fails, or, at the end, none does.
+-- `limits::encode_refusal` meets its contract: each return is the first need that is not met, or, at the end, all are.
 -- Assumes nothing.
-use mathlib.Core.Path.{sym, _∙_}
+use mathlib.Core.Path.{refl, _∙_}
 use native.Mathlib.Omega.{arith}
 use borrow.Author.Needs.{needs}
-use borrow.Author.Tests.{not-true, not-false}
-use Rattle.word.specs.Setting.{has-room}
-use Rattle.word.specs.Refusals.{encode-setting, encode-length, encode-word, encode-symbol, encode-none}
+use Rattle.algebra.specs.Refusal.{need-yes, need-no, test-yes, test-no}
+use Rattle.word.specs.Setting.{has-room, own-symbols}
+use Rattle.word.specs.Answers.{encodeRefusal}
 use Rattle.word.proofs.limits.encode_refusal.Statement.{statement}
 use Rattle.word.proofs.limits.encode_refusal.Tie as tie
 
@@ -13,22 +13,25 @@ is-allowed-requires : tie.Need-is-allowed-requires
 is-allowed-requires c κs = search needs
 
 returns : tie.Need-returns
-returns c = (encode-setting _ _ _ (sym (c .before .is-allowed .ensures) ∙ not-true _ (c .if1 .taken)), omega arith)
+unfolding encodeRefusal
+returns c = (need-no _ _ _ (test-no _ _ (c .before .is-allowed .ensures) (c .if1 .taken)), omega arith)
 
 sub-if2 : tie.Need-sub-if2
-sub-if2 c =
-    let allowed = c .before in
-    omega (arith, has-room _ (sym (allowed .before .is-allowed .ensures) ∙ not-false _ (allowed .if1 .left)))
+sub-if2 c = omega (arith, has-room _ (test-yes _ _ (c .before .before .is-allowed .ensures) (c .before .if1 .left)))
 
 returns-2 : tie.Need-returns-2
+unfolding encodeRefusal
 returns-2 c =
     let allowed = c .before .before in
-    (encode-length _ _ _ (sym (allowed .before .is-allowed .ensures) ∙ not-false _ (allowed .if1 .left)) (c .if2 .taken), omega arith)
+    (need-yes _ _ _ _ (test-yes _ _ (allowed .before .is-allowed .ensures) (allowed .if1 .left)) (need-no _ _ _ (c .if2 .taken)), omega arith)
 
 returns-3 : tie.Need-returns-3
+unfolding encodeRefusal
 returns-3 c =
-    let allowed = c .before .before .before .before in
-    (encode-word _ _ _ (sym (allowed .before .is-allowed .ensures) ∙ not-false _ (allowed .if1 .left)) (c .if3 .taken), omega arith)
+    let sized = c .before .before in
+    let allowed = sized .before .before in
+    let ok = test-yes _ _ (allowed .before .is-allowed .ensures) (allowed .if1 .left) in
+    (need-yes _ _ _ _ ok (need-yes _ _ _ _ (sized .if2 .left) (need-no _ _ _ (c .if3 .taken))), omega arith)
 
 symbols-of-requires : tie.Need-symbols-of-requires
 symbols-of-requires c κs = search needs
@@ -37,18 +40,22 @@ all-below-requires : tie.Need-all-below-requires
 all-below-requires c κs = search needs
 
 returns-4 : tie.Need-returns-4
+unfolding encodeRefusal
 returns-4 c =
     let sized = c .before .before .before in
     let allowed = sized .before .before .before .before in
-    let ok = sym (allowed .before .is-allowed .ensures) ∙ not-false _ (allowed .if1 .left) in
-    (encode-symbol _ _ _ ok (sized .before .before .if2 .left) (sized .if3 .left) _ (c .before .before .symbols-of .ensures) (sym (c .before .all-below .ensures) ∙ not-true _ (c .if4 .taken)), omega arith)
+    let ok = test-yes _ _ (allowed .before .is-allowed .ensures) (allowed .if1 .left) in
+    let small = c .before .all-below .ensures ∙ own-symbols _ ok _ _ (c .before .before .symbols-of .ensures) in
+    (need-yes _ _ _ _ ok (need-yes _ _ _ _ (sized .before .before .if2 .left) (need-yes _ _ _ _ (sized .if3 .left) (need-no _ _ _ (test-no _ _ small (c .if4 .taken))))), omega arith)
 
 returns-5 : tie.Need-returns-5
+unfolding encodeRefusal
 returns-5 c =
     let sized = c .before .before .before in
     let allowed = sized .before .before .before .before in
-    let ok = sym (allowed .before .is-allowed .ensures) ∙ not-false _ (allowed .if1 .left) in
-    (encode-none _ _ _ ok (sized .before .before .if2 .left) (sized .if3 .left) _ (c .before .before .symbols-of .ensures) (sym (c .before .all-below .ensures) ∙ not-false _ (c .if4 .left)), omega arith)
+    let ok = test-yes _ _ (allowed .before .is-allowed .ensures) (allowed .if1 .left) in
+    let small = c .before .all-below .ensures ∙ own-symbols _ ok _ _ (c .before .before .symbols-of .ensures) in
+    (need-yes _ _ _ _ ok (need-yes _ _ _ _ (sized .before .before .if2 .left) (need-yes _ _ _ _ (sized .if3 .left) (need-yes _ _ _ _ (test-yes _ _ small (c .if4 .left)) refl))), omega arith)
 
 pub encode-refusal-spec : {M : Type 1} → statement M
 encode-refusal-spec =
