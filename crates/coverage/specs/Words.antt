@@ -10,7 +10,7 @@ use lib.Dec.{T, lit<}
 use Rattle.algebra.specs.Tests.{at, below, below-at, below-all}
 use Rattle.algebra.specs.Lists.{tabulate, length-tabulate, getD-tabulate}
 use Rattle.word.specs.Setting.{allowed, messageSize}
-use Rattle.word.specs.Codeword.{isCodeword, qualifies, codeword, is-near}
+use Rattle.word.specs.Codeword.{isCodeword, qualifies, codeword, is-in-reach}
 use Rattle.word.specs.Code.{encoded, corrected}
 use Rattle.word.specs.Code.Laws.{qualifies-once, corrected-only, encoded-codeword, encoded-begins}
 use Rattle.word.specs.Answers.{numberOf, figures}
@@ -72,7 +72,7 @@ came-in s eight sent came marks code near c = record {
 module _ (s : Setting) (ok : T (allowed s)) (marks came : List ℕ) where
   module _ (sent : List ℕ) (c : Came s sent came marks) where
     sent-near : T (qualifies s marks came sent)
-    sent-near = is-near s marks came sent (record { code = codeword s sent (c .code); bound = c .near })
+    sent-near = is-in-reach s marks came sent (record { code = codeword s sent (c .code); bound = c .near })
 
     pub word-corrected : corrected s marks came ≡ some sent
     word-corrected = corrected-only s ok marks came (c .size) sent sent-near

@@ -9,7 +9,7 @@ use native.Mathlib.Omega.{arith}
 use lib.Dec.{T, lit≤, eqb, eqb→eq, leb, ltb, leb→le, ltb→lt}
 use lib.ListN.{length, replicate}
 use Rattle.algebra.specs.Xor.{_⊕_}
-use Rattle.algebra.specs.Tests.{at, total, each, each-at, below, first, second}
+use Rattle.algebra.specs.Tests.{at, total, each, each-at, below, and-left, and-right}
 use Rattle.algebra.specs.Lists.{tabulate, joined}
 use Rattle.field.specs.Field.{times, reduce, product, power}
 use Rattle.field.specs.Answers.{isField}
@@ -46,11 +46,11 @@ module _ (y : Layout) (start size : ℕ) (sent slots marks : List ℕ) where
 
   struck-by : T (each (y .words) λ w. each (y .n) λ p. passes (y .slot w p)) → Struck y ((start, size) ∷ []) sent slots marks
   struck-by t = record {
-    unmarked = λ w p h l. eqb→eq _ _ (first (eqb (at marks (y .slot w p)) 0) _ (test w p h l));
+    unmarked = λ w p h l. eqb→eq _ _ (and-left (eqb (at marks (y .slot w p)) 0) _ (test w p h l));
     clean = λ w p h l out.
         let s : ℕ = y .slot w p in
-        eqb→eq _ _ (unless (hit s) _ (second (eqb (at marks s) 0) _ (test w p h l))
-        λ u. out (inl (leb→le start s (first (leb start s) _ u), ltb→lt s (start + size) (second (leb start s) _ u))));
+        eqb→eq _ _ (unless (hit s) _ (and-right (eqb (at marks s) 0) _ (test w p h l))
+        λ u. out (inl (leb→le start s (and-left (leb start s) _ u), ltb→lt s (start + size) (and-right (leb start s) _ u))));
   }
     where
       test : OnWords y λ s. T (passes s)

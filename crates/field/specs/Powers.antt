@@ -10,7 +10,7 @@ use native.Mathlib.Omega.{arith}
 use lib.Dec.{T, eqb, ltb, eqb→eq, ltb→lt}
 use lib.ListN.{length, getD}
 use lib.Pow.{pow-lt}
-use Rattle.algebra.specs.Tests.{first, second}
+use Rattle.algebra.specs.Tests.{and-left, and-right}
 use Rattle.field.specs.Field.{product, power}
 use Rattle.field.specs.Products.{product-one, product-below, product-assoc}
 use Rattle.field.specs.Tables.{every, every-at}
@@ -37,9 +37,9 @@ module _ (m p : ℕ) where
   doubles-at : (ps : List ℕ) (i : ℕ) → T (doubles m p (power m p i) ps) → (k : ℕ) → k < length ps → getD ps k 0 ≡ power m p (i + k)
   doubles-at [] i t k h = absurd (not-suc-le-zero h)
   doubles-at (y ∷ ys) i t zero h =
-      sym (eqb→eq (power m p i) y (first (eqb (power m p i) y) (doubles m p (product m p 2 y) ys) t)) ∙ ap (power m p) (sym (add-zero i))
+      sym (eqb→eq (power m p i) y (and-left (eqb (power m p i) y) (doubles m p (product m p 2 y) ys) t)) ∙ ap (power m p) (sym (add-zero i))
   doubles-at (y ∷ ys) i t (suc k) h =
-      doubles-at ys (suc i) (subst (λ (z : ℕ). T (doubles m p z ys)) (next i y (first a b t)) (second a b t)) k (le-of-suc-le-suc h)
+      doubles-at ys (suc i) (subst (λ (z : ℕ). T (doubles m p z ys)) (next i y (and-left a b t)) (and-right a b t)) k (le-of-suc-le-suc h)
       ∙ ap (power m p) (suc-add i k ∙ sym (add-suc i k))
     where
       a : Bool
@@ -52,7 +52,7 @@ module _ (m p : ℕ) where
   doubles-end [] i t = ap (power m p) (add-zero i) ∙ eqb→eq (power m p i) 1 t
   doubles-end (y ∷ ys) i t =
       ap (power m p) (add-suc i (length ys) ∙ sym (suc-add i (length ys)))
-      ∙ doubles-end ys (suc i) (subst (λ (z : ℕ). T (doubles m p z ys)) (next i y (first a b t)) (second a b t))
+      ∙ doubles-end ys (suc i) (subst (λ (z : ℕ). T (doubles m p z ys)) (next i y (and-left a b t)) (and-right a b t))
     where
       a : Bool
       a = eqb (power m p i) y
@@ -112,7 +112,7 @@ module _ {m p : ℕ} {ps es : List ℕ} (t : Rules m p ps es) where
 
   log-both : (x : ℕ) → 0 < x → x < 2 ^ m → (log x < order) × (getD ps (log x) 0 ≡ x)
   log-both zero h l = absurd (not-suc-le-zero h)
-  log-both (suc x) h l = (ltb→lt (log (suc x)) order (first a b here), eqb→eq (getD ps (log (suc x)) 0) (suc x) (second a b here))
+  log-both (suc x) h l = (ltb→lt (log (suc x)) order (and-left a b here), eqb→eq (getD ps (log (suc x)) 0) (suc x) (and-right a b here))
     where
       a : Bool
       a = ltb (log (suc x)) order

@@ -8,7 +8,7 @@ use native.Mathlib.Nat.{add-zero, zero-add, add-suc, suc-add, mod-lt}
 use native.Mathlib.Omega.{arith}
 use lib.Dec.{T, ltb, ltb→lt}
 use lib.ListN.{length, replicate}
-use Rattle.algebra.specs.Tests.{at, below, first, second}
+use Rattle.algebra.specs.Tests.{at, below, and-left, and-right}
 use Rattle.algebra.specs.Lists.{tabulate, tabulated}
 use Rattle.rings.specs.Rings.{tri, RingFits, ring-end}
 use Rattle.rings.specs.Delay.{lineOut, lineKept, position, memory, answer, kept-length, kept-below}
@@ -93,8 +93,8 @@ module _ (units : ℕ → ℕ) (I M P : ℕ) where
   unfolding run below
   run-below q p m [] t u = t
   run-below q p m (b ∷ bs) t u =
-      let h : b < q = ltb→lt b q (first (ltb b q) (below q bs) u) in
-      run-below q ((p + 1) % P) (lineKept units I M m p b) bs (kept-below units I M q m p b t h) (second (ltb b q) (below q bs) u)
+      let h : b < q = ltb→lt b q (and-left (ltb b q) (below q bs) u) in
+      run-below q ((p + 1) % P) (lineKept units I M m p b) bs (kept-below units I M q m p b t h) (and-right (ltb b q) (below q bs) u)
 
   module _ (d : ℕ) (f : ℕ → ℕ) where
     -- memory, answers and position of the step rule, from step s on

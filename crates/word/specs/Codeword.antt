@@ -7,7 +7,7 @@ use mathlib.Core.List.{List}
 use Prim.Native.Nat.{ℕ, _+_, _*_, _^_, _≤_, _<_}
 use lib.ListN.{length}
 use lib.Dec.{T, eqb, eqb→eq, eqb-refl, leb, leb→le, le→leb}
-use Rattle.algebra.specs.Tests.{each, below, both, first, second, each-at, each-all}
+use Rattle.algebra.specs.Tests.{each, below, both, and-left, and-right, each-at, each-all}
 use Rattle.field.specs.Field.{a^}
 use Rattle.word.specs.Word.{value, errors, marked}
 use Rattle.word.specs.declared.Setting.{Setting}
@@ -34,9 +34,9 @@ codeword s w t =
     let b : Bool = below (2 ^ s .m) w in
     let z : ℕ → Bool = λ j. eqb (value (s .m) w (a^ (s .m) (s .b + j))) 0 in
     record {
-      size = eqb→eq _ _ (first a b (first (a && b) (each (s .r) z) t));
-      small = second a b (first (a && b) (each (s .r) z) t);
-      zeros = λ j l. eqb→eq _ _ (each-at (s .r) z (second (a && b) (each (s .r) z) t) j l);
+      size = eqb→eq _ _ (and-left a b (and-left (a && b) (each (s .r) z) t));
+      small = and-right a b (and-left (a && b) (each (s .r) z) t);
+      zeros = λ j l. eqb→eq _ _ (each-at (s .r) z (and-right (a && b) (each (s .r) z) t) j l);
     }
 
 pub is-codeword : (s : Setting) (w : List ℕ) → Codeword s w → T (isCodeword s w)
@@ -48,16 +48,16 @@ is-codeword s w c =
     both (a && b) (each (s .r) z) (both a b (subst (λ (k : ℕ). T (eqb (length w) k)) (c .size) (eqb-refl (length w))) (c .small))
     (each-all (s .r) z λ j l. subst (λ (k : ℕ). T (eqb k 0)) (sym (c .zeros j l)) tt)
 
-pub record Near (s : Setting) (marks received w : List ℕ) : Type 0 where
+pub record InReach (s : Setting) (marks received w : List ℕ) : Type 0 where
   pub code : Codeword s w
   pub bound : 2 * errors marks received w + marked marks received ≤ s .r
 
-pub near : (s : Setting) (marks received w : List ℕ) → T (qualifies s marks received w) → Near s marks received w
+pub in-reach : (s : Setting) (marks received w : List ℕ) → T (qualifies s marks received w) → InReach s marks received w
 unfolding qualifies
-near s marks received w t =
+in-reach s marks received w t =
     let b : Bool = leb (2 * errors marks received w + marked marks received) (s .r) in
-    record { code = codeword s w (first (isCodeword s w) b t); bound = leb→le _ _ (second (isCodeword s w) b t) }
+    record { code = codeword s w (and-left (isCodeword s w) b t); bound = leb→le _ _ (and-right (isCodeword s w) b t) }
 
-pub is-near : (s : Setting) (marks received w : List ℕ) → Near s marks received w → T (qualifies s marks received w)
+pub is-in-reach : (s : Setting) (marks received w : List ℕ) → InReach s marks received w → T (qualifies s marks received w)
 unfolding qualifies
-is-near s marks received w n = both (isCodeword s w) _ (is-codeword s w (n .code)) (le→leb _ _ (n .bound))
+is-in-reach s marks received w n = both (isCodeword s w) _ (is-codeword s w (n .code)) (le→leb _ _ (n .bound))

@@ -12,7 +12,7 @@ use lib.ListN.{length, take}
 use lib.Seq.{take-length, take-take, take-append-seam}
 use Rattle.algebra.specs.Tests.{at, total}
 use Rattle.word.specs.Word.{errors, marked, bits}
-use Rattle.word.specs.Codeword.{qualifies, Codeword, near, is-near}
+use Rattle.word.specs.Codeword.{qualifies, Codeword, in-reach, is-in-reach}
 use Rattle.word.specs.Distance.{errors-self, bits-self}
 use Rattle.word.specs.Code.{corrected}
 use Rattle.word.specs.Code.Laws.{corrected-only, corrected-none}
@@ -76,14 +76,14 @@ module _ (s : Setting) (marks received : List ℕ) (ch : Checked s marks receive
 
   -- more marks than check symbols
   pub overmarked : (out : List ℕ) (r : Correction) (f : ℕ) → length out ≡ s .n → f ≡ marked marks received → s .r < f → r .found ≡ false → Corrects s marks received out r
-  overmarked out r f n e l g = corrects-none out r n g λ c q. omega (arith, near s marks received c q .bound)
+  overmarked out r f n e l g = corrects-none out r n g λ c q. omega (arith, in-reach s marks received c q .bound)
 
   module _ (f : ℕ) (ef : f ≡ marked marks received) (few : f ≤ s .r) (S : List ℕ) (syn : Syndromes (s .m) (s .b) received S) where
     -- a received codeword
     pub found-clean : (r : Correction) → allZero (s .m) (s .r) S ≡ true → FoundWith 0 f 0 r → Corrects s marks received received r
     found-clean r z g =
         corrects-found received r (ch .size) (g .found) (g .figures ∙ rw (errors-self marks received, bits-self received, ← ef))
-        (is-near s marks received received (record { code = clean s marks received ch S syn (allZero-at _ _ S z); bound = omega (arith, errors-self marks received) }))
+        (is-in-reach s marks received received (record { code = clean s marks received ch S syn (allZero-at _ _ S z); bound = omega (arith, errors-self marks received) }))
 
     module _ (out rest : List ℕ) (rep : Steps s marks f S received out rest) where
       abbrev t : ℕ
@@ -98,26 +98,26 @@ module _ (s : Setting) (marks received : List ℕ) (ch : Checked s marks receive
       -- whatever qualifies is the word that was made
       made : (c : List ℕ) → T (qualifies s marks received c) → out ≡ c
       made c q =
-          solved s marks received ch t lo hi S (rep .peeled) (rep .vector) (rep .flags) out rest syn (rep .is-peeled) (rep .is-kernel) (rep .are-candidates) (rep .are-corrected) c (near s marks received c q)
+          solved s marks received ch t lo hi S (rep .peeled) (rep .vector) (rep .flags) out rest syn (rep .is-peeled) (rep .is-kernel) (rep .are-candidates) (rep .are-corrected) c (in-reach s marks received c q)
 
       -- what is left does not vanish
       pub lost-left : (r : Correction) → allZero (s .m) (s .r) rest ≡ false → r .found ≡ false → Corrects s marks received out r
       lost-left r z g = corrects-none out r (rep .are-corrected .size) g λ c q.
           different (sym (allZero-yes (s .m) (s .r) rest
           (left-zero s marks received ch t lo hi S (rep .peeled) (rep .vector) (rep .flags) out rest syn (rep .is-peeled) (rep .is-kernel) (rep .are-candidates) (rep .are-corrected)
-          (subst (Codeword s) (sym (made c q)) (near s marks received c q .code)))) ∙ z)
+          (subst (Codeword s) (sym (made c q)) (in-reach s marks received c q .code)))) ∙ z)
 
       -- too many wrong symbols
       pub lost-far : (r : Correction) (e : ℕ) → e ≡ errors marks received out → s .r < 2 * e + f → r .found ≡ false → Corrects s marks received out r
       lost-far r e ee l g = corrects-none out r (rep .are-corrected .size) g λ c q.
-          let bound : 2 * errors marks received out + marked marks received ≤ s .r = rw (made c q) (near s marks received c q .bound) in
+          let bound : 2 * errors marks received out + marked marks received ≤ s .r = rw (made c q) (in-reach s marks received c q .bound) in
           omega arith
 
       pub found-corrected : (r : Correction) (e : ℕ) → e ≡ errors marks received out → 2 * e + f ≤ s .r → allZero (s .m) (s .r) rest ≡ true
           → (b : ℕ) → b ≡ bits received out → FoundWith e f b r → Corrects s marks received out r
       found-corrected r e ee l z b eb g =
           corrects-found out r (rep .are-corrected .size) (g .found) (g .figures ∙ rw (ee, ef, eb))
-          (is-near s marks received out (record {
+          (is-in-reach s marks received out (record {
             code = made-codeword s marks received ch t lo hi S (rep .peeled) (rep .vector) (rep .flags) out rest syn (rep .is-peeled) (rep .is-kernel) (rep .are-candidates) (rep .are-corrected) (allZero-at _ _ rest z);
             bound = omega arith;
           }))

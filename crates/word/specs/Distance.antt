@@ -15,7 +15,7 @@ use lib.Bits.{bitXor, xor-lt, xor-self}
 use lib.Count.{ones}
 use lib.Dec.{T, ltb, ltb→lt}
 use Rattle.algebra.specs.Sets.{one, count}
-use Rattle.algebra.specs.Tests.{at, total, below, first, second, total-first, below-at}
+use Rattle.algebra.specs.Tests.{at, total, below, and-left, and-right, total-first, below-at}
 use Rattle.algebra.specs.Xor.{_⊕_, same-below}
 use Rattle.algebra.specs.Peel.{Rep, Apart}
 use Rattle.algebra.specs.Vandermonde.{unlike, near-once}
@@ -28,7 +28,7 @@ use Rattle.word.specs.Setting.{Allowed, named}
 use Rattle.checks.specs.Roots.{spots}
 use Rattle.decoder.specs.Places.{flagged}
 use Rattle.word.specs.Word.{valueFrom, value, errorAt, errorOf-same, errorOf-wrong, errors, marked, bitsAt, bits}
-use Rattle.word.specs.Codeword.{Codeword, Near}
+use Rattle.word.specs.Codeword.{Codeword, InReach}
 use Rattle.word.specs.declared.Setting.{Setting}
 
 -- ---- the paper's value is the theory's
@@ -40,16 +40,16 @@ module _ (m : ℕ) where
   value-horner (c ∷ w) v x a b h =
       ap (λ (z : ℕ). horner (K m) x (bitXor z c) w) (ap₂ (mul (wide m)) (mod-eq-of-lt a) (mod-eq-of-lt b))
       ∙ value-horner w (bitXor (mul (wide m) v x) c) x
-      (xor-lt (wide m) (mul (wide m) v x) c (product-below (wide m) (modulus (wide m)) (known m .rules .degree) v b) (ltb→lt c (2 ^ wide m) (first (ltb c (2 ^ wide m)) (below (2 ^ wide m) w) h)))
-      b (second (ltb c (2 ^ wide m)) (below (2 ^ wide m) w) h)
+      (xor-lt (wide m) (mul (wide m) v x) c (product-below (wide m) (modulus (wide m)) (known m .rules .degree) v b) (ltb→lt c (2 ^ wide m) (and-left (ltb c (2 ^ wide m)) (below (2 ^ wide m) w) h)))
+      b (and-right (ltb c (2 ^ wide m)) (below (2 ^ wide m) w) h)
 
   value-below : (w : List ℕ) (v x : ℕ) → v < 2 ^ wide m → x < 2 ^ wide m → T (below (2 ^ wide m) w) → valueFrom (wide m) v x w < 2 ^ wide m
   unfolding valueFrom below _⊕_
   value-below [] v x a b h = a
   value-below (c ∷ w) v x a b h =
       value-below w (bitXor (mul (wide m) v x) c) x
-      (xor-lt (wide m) (mul (wide m) v x) c (product-below (wide m) (modulus (wide m)) (known m .rules .degree) v b) (ltb→lt c (2 ^ wide m) (first (ltb c (2 ^ wide m)) (below (2 ^ wide m) w) h)))
-      b (second (ltb c (2 ^ wide m)) (below (2 ^ wide m) w) h)
+      (xor-lt (wide m) (mul (wide m) v x) c (product-below (wide m) (modulus (wide m)) (known m .rules .degree) v b) (ltb→lt c (2 ^ wide m) (and-left (ltb c (2 ^ wide m)) (below (2 ^ wide m) w) h)))
+      b (and-right (ltb c (2 ^ wide m)) (below (2 ^ wide m) w) h)
 
   pub value-at-root : (w : List ℕ) (k : ℕ) → T (below (2 ^ wide m) w) → horner (K m) (pow (K m) 2 k) 0 w ≡ value (wide m) w (a^ (wide m) k)
   value-at-root w k h = ap (λ (x : ℕ). horner (K m) x 0 w) (pow-power m k) ∙ value-horner w 0 (a^ (wide m) k) (pow-pos (wide m)) (power-below (known m .rules) k) h
@@ -129,7 +129,7 @@ module _ (s : Setting) (ok : Allowed s) where
         (omega (arith, h, marks-few, errors-few c (p .size), errors-few d (q .size))) (s .n - suc i) (omega arith)))
 
     -- at most one qualifies
-    pub near-one : (c d : List ℕ) → Near s marks received c → Near s marks received d → c ≡ d
+    pub near-one : (c d : List ℕ) → InReach s marks received c → InReach s marks received d → c ≡ d
     near-one c d p q = close-once c d (p .code) (q .code) (omega (arith, p .bound, q .bound))
 
   -- two codewords differ in at least r + 1 places: with no marks, those are the errors of one as received and the other as sent

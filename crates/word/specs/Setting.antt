@@ -8,7 +8,7 @@ use native.Mathlib.Decide.{ℕ-discrete}
 use native.Mathlib.Omega.{arith}
 use lib.Dec.{T, leb, leb→le, ltb, ltb→lt}
 use borrow.Author.Tests.{ne-eqb, le-leb, lt-ltb}
-use Rattle.algebra.specs.Tests.{below, first, second, passed}
+use Rattle.algebra.specs.Tests.{below, and-left, and-right, passed}
 use Rattle.field.specs.Answers.{isField}
 use Rattle.field.specs.Elements.{wide, wide-3, wide-8}
 use Rattle.word.specs.declared.Setting.{Setting}
@@ -40,16 +40,16 @@ limits s t =
     let c : Bool = ltb (s .r) (s .n) in
     let d : Bool = ltb (s .n) (2 ^ s .m) in
     let e : Bool = leb (s .b) 1 in
-    let t4 : T (f && a && b && c && d) = first (f && a && b && c && d) e t in
-    let t3 : T (f && a && b && c) = first (f && a && b && c) d t4 in
-    let t2 : T (f && a && b) = first (f && a && b) c t3 in
+    let t4 : T (f && a && b && c && d) = and-left (f && a && b && c && d) e t in
+    let t3 : T (f && a && b && c) = and-left (f && a && b && c) d t4 in
+    let t2 : T (f && a && b) = and-left (f && a && b) c t3 in
     record {
-      field = first f a (first (f && a) b t2);
-      low = leb→le _ _ (second f a (first (f && a) b t2));
-      high = leb→le _ _ (second (f && a) b t2);
-      room = ltb→lt _ _ (second (f && a && b) c t3);
-      short = ltb→lt _ _ (second (f && a && b && c) d t4);
-      start = leb→le _ _ (second (f && a && b && c && d) e t);
+      field = and-left f a (and-left (f && a) b t2);
+      low = leb→le _ _ (and-right f a (and-left (f && a) b t2));
+      high = leb→le _ _ (and-right (f && a) b t2);
+      room = ltb→lt _ _ (and-right (f && a && b) c t3);
+      short = ltb→lt _ _ (and-right (f && a && b && c) d t4);
+      start = leb→le _ _ (and-right (f && a && b && c && d) e t);
     }
 
 pub allowed-yes : (s : Setting) → Allowed s → true ≡ allowed s

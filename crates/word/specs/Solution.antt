@@ -26,7 +26,7 @@ use Rattle.word.specs.Setting.{Allowed, limits}
 use Rattle.checks.specs.Roots.{spots}
 use Rattle.decoder.specs.Places.{locator, flagged, spare}
 use Rattle.word.specs.Word.{marked}
-use Rattle.word.specs.Codeword.{Codeword, Near}
+use Rattle.word.specs.Codeword.{Codeword, InReach}
 use Rattle.word.specs.Distance.{own-field, spots-apart, codeword-sums, marks-few, errors-few}
 use Rattle.word.specs.Completion.{codeword-from}
 use Rattle.word.specs.Refusals.{Checked}
@@ -178,7 +178,7 @@ module _ (s : Setting) (marks received : List ℕ) (ch : Checked s marks receive
       | yes h ↦ let f : Fixed m n (s .b) C S received out i = fix .fixed i l h in rw (f .changed) (xor-lt (wide m) (at received i) (f .error) (small-at i) (f .right .small))
     ]
 
-    pub solved : (c : List ℕ) → Near s marks received c → out ≡ c
+    pub solved : (c : List ℕ) → InReach s marks received c → out ≡ c
     solved c g = ext-getD 0 out c (fix .size ∙ sym (g .code .size)) λ i u.
         let l : i < n = omega (arith, fix .size) in
         same-below (wide m) _ _ (out-small i l) (rw (own-field s ok) (below-at _ c (g .code .small) i (pow-pos m)))

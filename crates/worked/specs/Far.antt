@@ -14,7 +14,7 @@ use Rattle.field.specs.Field.{times, reduce, product, power}
 use Rattle.field.specs.Answers.{isField}
 use Rattle.word.specs.Setting.{allowed}
 use Rattle.word.specs.Word.{valueFrom, errorOf, errors, marked, errorOf-wrong}
-use Rattle.word.specs.Codeword.{isCodeword, qualifies, Codeword, Near, near, is-near}
+use Rattle.word.specs.Codeword.{isCodeword, qualifies, Codeword, InReach, in-reach, is-in-reach}
 use Rattle.word.specs.Code.Laws.{corrected-only}
 use Rattle.word.specs.declared.Setting.{Setting}
 
@@ -37,18 +37,18 @@ first-0 : (y z : ℕ) → Codeword codeS (0 ∷ y ∷ z ∷ []) → 0 ∷ y ∷ 
 unfolding qualifies isCodeword each below valueFrom errorOf errors marked total _⊕_ times reduce product power
 first-0 y z c =
     let w : List ℕ = 0 ∷ y ∷ z ∷ [] in
-    alike (0 ∷ 1 ∷ 1 ∷ []) (0 ∷ 0 ∷ 0 ∷ []) w (0 ∷ 0 ∷ 0 ∷ []) refl (is-near codeS (0 ∷ 1 ∷ 1 ∷ []) (0 ∷ 0 ∷ 0 ∷ []) w (record { code = c; bound = lit≤ tt })) tt
+    alike (0 ∷ 1 ∷ 1 ∷ []) (0 ∷ 0 ∷ 0 ∷ []) w (0 ∷ 0 ∷ 0 ∷ []) refl (is-in-reach codeS (0 ∷ 1 ∷ 1 ∷ []) (0 ∷ 0 ∷ 0 ∷ []) w (record { code = c; bound = lit≤ tt })) tt
 
 last-2 : (x y : ℕ) → Codeword codeS (x ∷ y ∷ 2 ∷ []) → x ∷ y ∷ 2 ∷ [] ≡ 1 ∷ 3 ∷ 2 ∷ []
 unfolding qualifies isCodeword each below valueFrom errorOf errors marked total _⊕_ times reduce product power
 last-2 x y c =
     let w : List ℕ = x ∷ y ∷ 2 ∷ [] in
-    alike (1 ∷ 1 ∷ 0 ∷ []) (0 ∷ 0 ∷ 2 ∷ []) w (1 ∷ 3 ∷ 2 ∷ []) refl (is-near codeS (1 ∷ 1 ∷ 0 ∷ []) (0 ∷ 0 ∷ 2 ∷ []) w (record { code = c; bound = lit≤ tt })) tt
+    alike (1 ∷ 1 ∷ 0 ∷ []) (0 ∷ 0 ∷ 2 ∷ []) w (1 ∷ 3 ∷ 2 ∷ []) refl (is-in-reach codeS (1 ∷ 1 ∷ 0 ∷ []) (0 ∷ 0 ∷ 2 ∷ []) w (record { code = c; bound = lit≤ tt })) tt
 
 -- ---- P9: a codeword with one error or none has the 0 in front or the 2 at the end, and so is 0,0,0 or 1,3,2: both have two errors
 
 abbrev Near9 : List ℕ → Type 0
-Near9 w = Near codeS (0 ∷ 0 ∷ 0 ∷ []) (0 ∷ 1 ∷ 2 ∷ []) w
+Near9 w = InReach codeS (0 ∷ 0 ∷ 0 ∷ []) (0 ∷ 1 ∷ 2 ∷ []) w
 
 not-000 : Near9 (0 ∷ 0 ∷ 0 ∷ []) → ⊥
 unfolding errorOf errors marked total
@@ -76,10 +76,10 @@ near9-none (x ∷ y ∷ z ∷ []) n = far x y z n
 near9-none (x ∷ y ∷ z ∷ t ∷ w) n = omega (arith, n .code .size)
 
 pub none-near : (w : List ℕ) → T (qualifies codeS (0 ∷ 0 ∷ 0 ∷ []) (0 ∷ 1 ∷ 2 ∷ []) w) → ⊥
-none-near w t = near9-none w (near codeS (0 ∷ 0 ∷ 0 ∷ []) (0 ∷ 1 ∷ 2 ∷ []) w t)
+none-near w t = near9-none w (in-reach codeS (0 ∷ 0 ∷ 0 ∷ []) (0 ∷ 1 ∷ 2 ∷ []) w t)
 
 -- ---- P10: there are more marks than check symbols
 
 pub too-many : (w : List ℕ) → T (qualifies codeS (1 ∷ 1 ∷ 1 ∷ []) (1 ∷ 3 ∷ 2 ∷ []) w) → ⊥
 unfolding marked total
-too-many w t = omega (arith, near codeS (1 ∷ 1 ∷ 1 ∷ []) (1 ∷ 3 ∷ 2 ∷ []) w t .bound)
+too-many w t = omega (arith, in-reach codeS (1 ∷ 1 ∷ 1 ∷ []) (1 ∷ 3 ∷ 2 ∷ []) w t .bound)

@@ -10,7 +10,7 @@ use native.Mathlib.Omega.{arith}
 use borrow.Author.Needs.{needs}
 use lib.Dec.{T, ltb, ltb→lt}
 use lib.ListN.{length}
-use Rattle.algebra.specs.Tests.{at, below, first, passed, below-at, below-all}
+use Rattle.algebra.specs.Tests.{at, below, and-left, passed, below-at, below-all}
 use Rattle.buffers.proofs.all_below.Statement.{statement}
 use Rattle.buffers.proofs.all_below.Tie as tie
 
@@ -30,7 +30,7 @@ larger q s i most x l h g f p = record {
 some-below : (q : ℕ) (s : List ℕ) → 0 < length s → T (below q s) → 0 < q
 unfolding below
 some-below q [] l t = absurd (omega arith)
-some-below q (x ∷ s) l t = let h : x < q = ltb→lt x q (first (ltb x q) (below q s) t) in omega arith
+some-below q (x ∷ s) l t = let h : x < q = ltb→lt x q (and-left (ltb x q) (below q s) t) in omega arith
 
 not-all : (b : Bool) → (T b → ⊥) → false ≡ b
 not-all true h = absurd (h tt)

@@ -7,7 +7,7 @@ use native.Mathlib.Nat.{mul-le-mul-right}
 use native.Mathlib.Omega.{arith}
 use lib.Dec.{T, leb, leb→le}
 use borrow.Author.Tests.{le-leb}
-use Rattle.algebra.specs.Tests.{first, second}
+use Rattle.algebra.specs.Tests.{and-left, and-right}
 use Rattle.word.specs.Setting.{allowed, Allowed, limits, allowed-yes}
 use Rattle.word.specs.declared.Setting.{Setting}
 use Rattle.frame.specs.Frame.{wordSetting, slotCount, areaSize, allowedFrame}
@@ -27,13 +27,13 @@ module _ (f : Framing) where
       let b : Bool = leb 1 (f .depth) in
       let c : Bool = leb (f .depth) 16 in
       let d : Bool = leb 4 (areaSize f) in
-      let t2 : T (a && b && c) = first (a && b && c) d t in
-      let t1 : T (a && b) = first (a && b) c t2 in
+      let t2 : T (a && b && c) = and-left (a && b && c) d t in
+      let t1 : T (a && b) = and-left (a && b) c t2 in
       record {
-        words = limits (wordSetting f) (first a b t1);
-        some = leb→le _ _ (second a b t1);
-        few = leb→le _ _ (second (a && b) c t2);
-        room = leb→le _ _ (second (a && b && c) d t);
+        words = limits (wordSetting f) (and-left a b t1);
+        some = leb→le _ _ (and-right a b t1);
+        few = leb→le _ _ (and-right (a && b) c t2);
+        room = leb→le _ _ (and-right (a && b && c) d t);
       }
 
   pub frame-kept : allowedFrame f ≡ true → FrameAllowed f

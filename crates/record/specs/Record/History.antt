@@ -111,9 +111,9 @@ highest top [] = top
 highest top (a ∷ rest) = highest (higher top a) rest
 
 -- each accepted frame is at most 32767 ahead of the highest before it, and at most 32768 behind
-unfoldable pub Near : ℕ → List Heard → Type 0
-Near top [] = Unit {0}
-Near top (a ∷ rest) = (a .number ≡ 0 → (a .sequence ≤ top + 32767) × (top ≤ a .sequence + 32768)) × Near (higher top a) rest
+unfoldable pub Paced : ℕ → List Heard → Type 0
+Paced top [] = Unit {0}
+Paced top (a ∷ rest) = (a .number ≡ 0 → (a .sequence ≤ top + 32767) × (top ≤ a .sequence + 32768)) × Paced (higher top a) rest
 
 -- the record's last number is that of frame `top`
 pub record Stands (h : Record) (top : ℕ) : Type 0 where
@@ -141,34 +141,34 @@ stands-order h top t s =
 
 stands-step : (h : Record) (top : ℕ) (a : Heard) → Stands h top → (a .number ≡ 0 → (a .sequence ≤ top + 32767) × (top ≤ a .sequence + 32768))
     → Stands (noted h (a .number) (a .sequence % 65536)) (higher top a)
-stands-step h top a s near = elim (ℕ-discrete (a .number) 0) [
+stands-step h top a s paced = elim (ℕ-discrete (a .number) 0) [
   | yes e ↦
-      rw (eq-eqb (a .number) 0 e, ← noted-accepted h (a .number) (a .sequence % 65536) e, judged h top (a .sequence) s (near e .0) (near e .1))
+      rw (eq-eqb (a .number) 0 e, ← noted-accepted h (a .number) (a .sequence % 65536) e, judged h top (a .sequence) s (paced e .0) (paced e .1))
       (stands-order h top (a .sequence) s)
   | no n ↦ rw (ne-eqb (a .number) 0 n) (stands-refused h top (a .number) (a .sequence % 65536) s n)
 ]
 
 -- the last number is that of the newest frame
-pub newest : (h : Record) (top : ℕ) (heard : List Heard) → Stands h top → Near top heard → Stands (after h (map carried heard)) (highest top heard)
-unfolding after highest Near
-newest h top [] s near = s
-newest h top (a ∷ rest) s near =
-    newest (noted h (a .number) (a .sequence % 65536)) (higher top a) rest (stands-step h top a s (near .0)) (near .1)
+pub newest : (h : Record) (top : ℕ) (heard : List Heard) → Stands h top → Paced top heard → Stands (after h (map carried heard)) (highest top heard)
+unfolding after highest Paced
+newest h top [] s paced = s
+newest h top (a ∷ rest) s paced =
+    newest (noted h (a .number) (a .sequence % 65536)) (higher top a) rest (stands-step h top a s (paced .0)) (paced .1)
 
 -- the same from the first accepted frame on, whatever the last number was before
-pub newest-from-first : (h : Record) (first : ℕ) (heard : List Heard) → h .accepted ≡ false → Near first heard
+pub newest-from-first : (h : Record) (first : ℕ) (heard : List Heard) → h .accepted ≡ false → Paced first heard
     → Stands (after (noted h 0 (first % 65536)) (map carried heard)) (highest first heard)
-newest-from-first h first heard n near = newest (noted h 0 (first % 65536)) first heard begun near
+newest-from-first h first heard n paced = newest (noted h 0 (first % 65536)) first heard begun paced
   where
     begun : Stands (noted h 0 (first % 65536)) first
     begun = rw (← noted-accepted h 0 (first % 65536) refl, ← standing-first h (first % 65536) n) (record { accepted = refl; last = refl })
 
 -- a late copy is older, and moves nothing but that count: whatever came in between, a frame that at most 32768 numbers have overtaken
 -- is never again the newest
-pub late-copy : (h : Record) (top : ℕ) (heard : List Heard) (t : ℕ) → Stands h top → Near top heard
+pub late-copy : (h : Record) (top : ℕ) (heard : List Heard) (t : ℕ) → Stands h top → Paced top heard
     → t < highest top heard → highest top heard ≤ t + 32768
     → noted (after h (map carried heard)) 0 (t % 65536) ≡ countedAs (after h (map carried heard)) (t % 65536) Older
-late-copy h top heard t s near l few =
+late-copy h top heard t s paced l few =
     let r : Record = after h (map carried heard) in
     let behind : trueOrder t (highest top heard) ≡ Behind = by-order (λ o. o ≡ Behind) t (highest top heard) (λ e. absurd (omega arith)) (λ m. absurd (omega arith)) (λ m. refl) in
-    sym (noted-accepted r 0 (t % 65536) refl) ∙ ap (countedAs r (t % 65536)) (judged r (highest top heard) t (newest h top heard s near) (omega arith) few ∙ ap kindOf behind)
+    sym (noted-accepted r 0 (t % 65536) refl) ∙ ap (countedAs r (t % 65536)) (judged r (highest top heard) t (newest h top heard s paced) (omega arith) few ∙ ap kindOf behind)

@@ -9,10 +9,10 @@ use native.Mathlib.Omega.{arith}
 use lib.ListN.{length, take, drop, replicate, length-append, length-replicate, getD-replicate, List·getD-append}
 use lib.Seq.{getD-append-add, take-append-seam}
 use lib.Dec.{T, ltb}
-use Rattle.algebra.specs.Tests.{at, total, below, second}
+use Rattle.algebra.specs.Tests.{at, total, below, and-right}
 use Rattle.word.specs.Setting.{allowed, Allowed, limits}
 use Rattle.word.specs.Word.{errors, errorAt, errorOf-same, errorOf-marked, marked}
-use Rattle.word.specs.Codeword.{isCodeword, qualifies, Codeword, codeword, Near, near, is-near}
+use Rattle.word.specs.Codeword.{isCodeword, qualifies, Codeword, codeword, InReach, in-reach, is-in-reach}
 use Rattle.word.specs.Search.Laws.{Passes, Sound, search-sound, search-only, search-none}
 use Rattle.word.specs.Distance.{near-one, total-zero, errors-self}
 use Rattle.word.specs.Completion.{message-completes}
@@ -24,12 +24,12 @@ use Rattle.word.specs.declared.Setting.{Setting}
 module _ (s : Setting) (ok : T (allowed s)) (marks received : List ℕ) (size : length received ≡ s .n) where
   -- at most one codeword has 2e + f ≤ r
   pub qualifies-once : (c d : List ℕ) → T (qualifies s marks received c) → T (qualifies s marks received d) → c ≡ d
-  qualifies-once c d p q = near-one s (limits s ok) marks received size c d (near s marks received c p) (near s marks received d q)
+  qualifies-once c d p q = near-one s (limits s ok) marks received size c d (in-reach s marks received c p) (in-reach s marks received d q)
 
   pub corrected-only : (c : List ℕ) → T (qualifies s marks received c) → corrected s marks received ≡ some c
   unfolding corrected
   corrected-only c p =
-      let w : Codeword s c = near s marks received c p .code in
+      let w : Codeword s c = in-reach s marks received c p .code in
       search-only (2 ^ s .m) (s .n) (qualifies s marks received) c (record { size = w .size; small = w .small; good = p })
       λ u q. qualifies-once u c (q .good) p
 
@@ -47,7 +47,7 @@ module _ (s : Setting) (marks received : List ℕ) where
 pub corrected-self : (s : Setting) → T (allowed s) → (marks w : List ℕ) → T (isCodeword s w) → marked marks w ≤ s .r → corrected s marks w ≡ some w
 corrected-self s ok marks w c l =
     corrected-only s ok marks w (codeword s w c .size) w
-    (is-near s marks w w (record { code = codeword s w c; bound = omega (arith, errors-self marks w) }))
+    (is-in-reach s marks w w (record { code = codeword s w c; bound = omega (arith, errors-self marks w) }))
 
 -- ---- encoding: a codeword is the only one that begins as it does, since with the check symbols marked 2e + f is r
 
@@ -84,7 +84,7 @@ small-marks (suc k) r zero = omega arith
 small-marks (suc k) r (suc i) = small-marks k r i
 
 begins-near : (s : Setting) (message w u : List ℕ) → s .r < s .n → length message ≡ s .n - s .r → Codeword s (message ++ w) → Codeword s (message ++ u)
-    → Near s (checks-marked (s .n - s .r) (s .r)) (message ++ w) (message ++ u)
+    → InReach s (checks-marked (s .n - s .r) (s .r)) (message ++ w) (message ++ u)
 unfolding errors marked
 begins-near s message w u room size a b =
     let k : ℕ = s .n - s .r in
@@ -108,7 +108,7 @@ begins-near s message w u room size a b =
 below-after : (q : ℕ) (v w : List ℕ) → T (below q (v ++ w)) → T (below q w)
 unfolding below
 below-after q [] w t = t
-below-after q (x ∷ v) w t = below-after q v w (second (ltb x q) (below q (v ++ w)) t)
+below-after q (x ∷ v) w t = below-after q v w (and-right (ltb x q) (below q (v ++ w)) t)
 
 append-cancel : (v x y : List ℕ) → v ++ x ≡ v ++ y → x ≡ y
 append-cancel [] x y e = e

@@ -10,7 +10,7 @@ use native.Mathlib.Decide.{ℕ-discrete}
 use native.Mathlib.Omega.{arith}
 use lib.ListN.{length}
 use lib.Dec.{T, ltb, lt→ltb, ltb→lt}
-use Rattle.algebra.specs.Tests.{if_then_else_, below, both, first, second}
+use Rattle.algebra.specs.Tests.{if_then_else_, below, both, and-left, and-right}
 use Rattle.word.specs.Search.{orElse, firstOf, search}
 
 -- a find has P, and to find nothing shows N
@@ -56,7 +56,7 @@ grow q n test x l (some w) s = record { size = ap suc (s .size); small = both (l
 join : (q n : ℕ) (test : List ℕ → Bool) → ((x : ℕ) → x < q → None q n (λ w. test (x ∷ w))) → None q (suc n) test
 unfolding below
 join q n test h [] p = let e = p .size in omega arith
-join q n test h (x ∷ w) p = h x (ltb→lt x q (first (ltb x q) (below q w) (p .small))) w (record { size = (let e = p .size in omega arith); small = second (ltb x q) (below q w) (p .small); good = p .good })
+join q n test h (x ∷ w) p = h x (ltb→lt x q (and-left (ltb x q) (below q w) (p .small))) w (record { size = (let e = p .size in omega arith); small = and-right (ltb x q) (below q w) (p .small); good = p .good })
 
 sound-map : (P : List ℕ → Type 0) (A B : Type 0) → (A → B) → (o : Option (List ℕ)) → Sound P A o → Sound P B o
 sound-map P A B f (some w) s = s
