@@ -43,7 +43,7 @@ sends-once {d = d} {e = e} p q =
     let same = p .outcome ∙ sym (q .outcome) in
     (sym (sent-as d) ∙ ap (λ (o : SendOutcome). sentAs (o .number)) same ∙ sent-as e, ap (λ (o : SendOutcome). o .slots) same)
 
-verdict-as : (v : Verdict) → verdictAs (numberOf v) (wordNumber v) ≡ v
+pub verdict-as : (v : Verdict) → verdictAs (numberOf v) (wordNumber v) ≡ v
 verdict-as Done = refl
 verdict-as BadSetting = refl
 verdict-as BadLength = refl

@@ -1,1 +1,3 @@
+pub mod Plain
 pub mod Lent
+pub mod LentMasts

@@ -1,2 +1,3 @@
 pub mod Receiver
+pub mod Masts
 pub mod Promises

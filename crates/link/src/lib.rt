@@ -1,7 +1,9 @@
 // The link: document 01, sections Block interleaver and frame, and Receiver's record. A payload and its sequence number are sent as one
 // frame of interleaved words; a received frame is decoded into a lent message area, which then holds the payload; and what each frame was
 // answered is noted in the receiver's record. What each call promises stands in specs/Promises.antt, and in those of frame and record.
+mod choice;
 mod hearing;
+mod masts;
 mod part;
 
 // Frames.
@@ -27,3 +29,13 @@ pub use record::standing_of;
 pub use hearing::Heard;
 pub use hearing::hear;
 pub use hearing::hear_in;
+
+// Two masts.
+pub use choice::Chosen;
+pub use choice::Mast;
+pub use masts::MastsHeard;
+pub use masts::hear_masts;
+pub use masts::hear_masts_in;
+pub use masts::masts_payload;
+pub use masts::receive_masts;
+pub use masts::receive_masts_part;

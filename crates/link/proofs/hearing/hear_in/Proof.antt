@@ -12,7 +12,8 @@ use Rattle.frame.proofs.setting.Framing.Laws as F′
 use Rattle.frame.proofs.setting.Received as N
 use Rattle.frame.proofs.setting.Received.Laws as N′
 use Rattle.link.proofs.hearing.Heard as K
-use Rattle.link.proofs.Lent.{Plain, meets}
+use Rattle.link.proofs.Plain.{Plain}
+use Rattle.link.proofs.Lent.{meets}
 use Rattle.link.proofs.hearing.hear as g
 use Rattle.link.proofs.hearing.hear.Symbol as g-def
 use Rattle.link.proofs.hearing.hear.Met as g-thm
