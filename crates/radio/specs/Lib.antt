@@ -4,3 +4,4 @@ pub mod Lines
 pub mod Frames
 pub mod Records
 pub mod Hearing
+pub mod Masts

@@ -46,7 +46,7 @@ pub fn framing_of(framing: FrameSetting) -> Framing
 }
 
 // Where a payload of so many bytes starts in an area of `size`: it ends four before the end. 0 where the frame was refused.
-fn start_of(number: u8, size: usize, length: usize) -> usize
+pub fn start_of(number: u8, size: usize, length: usize) -> usize
     ensures { λ r. ⌜ r ≡ startOf number size length ⌝ }
 {
     if number != 0 {

@@ -6,5 +6,6 @@ mod crosses;
 mod frames;
 mod hearing;
 mod lines;
+mod masts;
 mod records;
 mod words;

@@ -4,7 +4,8 @@ use mathlib.Core.Path.{refl}
 use contract.Running.{givenOf, tables, tablesOf}
 use denote.Triple.Spec.{tripleOf}
 use denote.Triple.Table.{entered, cited}
-use Rattle.link.proofs.Lent.{Plain, meets}
+use Rattle.link.proofs.Plain.{Plain}
+use Rattle.link.proofs.Lent.{meets}
 use Rattle.radio.specs.Hearing.{bothSeen, Hear}
 use Rattle.radio.proofs.records.LentRecord as T
 use Rattle.radio.proofs.records.LentRecord.Laws as T′
