@@ -8,9 +8,13 @@ use lib.ListN.{length, getD}
 use lib.Dec.{T}
 use Rattle.frame.specs.Frame.{allowedFrame}
 use Rattle.frame.specs.declared.setting.Framing.{Framing}
+use Rattle.record.specs.Record.{noted}
+use Rattle.record.specs.declared.Record.{Record}
+use Rattle.link.specs.declared.choice.Mast.the-variants.{First, Second}
 use Rattle.coverage.specs.Each.{Each}
 use Rattle.coverage.specs.Channel.{Covered, OneRun, SomeRuns, MarkedRuns}
 use Rattle.coverage.specs.Frame.{Message, Frame, inFrame, Arrives, StreamArrives, framesOf, Answer, Answers, ComesBack}
+use Rattle.coverage.specs.Masts.{Copies, CopyArrives, Refused, MastsArrive, MastsAnswer, MastsAnswers, MastsHeard, MastsBack}
 use Rattle.coverage.specs.Line.{LineSetting, LineAllowed, delay, onLine, LineArrives, LineReceived, leaving, WordComesBack}
 
 -- ---- Any messages that fit, sent over the block frame or the delay line and damaged or marked within that bound in every word, come back as sent.
@@ -70,6 +74,37 @@ pub record Demand3 : Type 0 where
   pub line-runs : LineRunsWithin
   pub frames-differ : NoTwoFramesAlike
   pub lines-differ : NoTwoLinesAlike
+
+-- ---- Two masts (document 02, No. 1). The demand holds if either copy meets its proviso and the other is refused or returns the same frame: ..
+
+abbrev pub TwoMastsComeBack : Type 0
+TwoMastsComeBack =
+    (f : Framing) → T (allowedFrame f) → (ms : List Message) (copies : List Copies) (answers : List MastsAnswer)
+    → Each (MastsArrive f) ms copies → Each (MastsAnswers f) copies answers → Each MastsBack ms answers
+
+-- .. the record notes that frame, once; ..
+abbrev pub TwoMastsNoted : Type 0
+TwoMastsNoted =
+    (f : Framing) → T (allowedFrame f) → (m : Message) (copies : Copies) (a : MastsAnswer) (before next : Record)
+    → MastsArrive f m copies → MastsHeard before f copies a next → MastsBack m a × (next ≡ noted before 0 (m .sequence))
+
+-- .. and no two lists of messages arrive with the same slots and marks at both masts.
+abbrev pub NoTwoMastsAlike : Type 0
+NoTwoMastsAlike =
+    (f : Framing) → T (allowedFrame f) → (ms ns : List Message) (copies : List Copies) → Each (MastsArrive f) ms copies → Each (MastsArrive f) ns copies → ms ≡ ns
+
+-- A copy within its proviso is never lost because the other is refused, by whatever number: it is the one that is used.
+abbrev pub RefusedTakesNothing : Type 0
+RefusedTakesNothing =
+    (f : Framing) → T (allowedFrame f) → (m : Message) (copies : Copies) (a : MastsAnswer) → MastsAnswers f copies a
+    → (CopyArrives f m (copies .first) → Refused f (copies .second) → MastsBack m a × (a .chosen .mast ≡ First))
+    × (CopyArrives f m (copies .second) → Refused f (copies .first) → MastsBack m a × (a .chosen .mast ≡ Second))
+
+pub record TwoMasts : Type 0 where
+  pub back : TwoMastsComeBack
+  pub noted-once : TwoMastsNoted
+  pub differ : NoTwoMastsAlike
+  pub refused : RefusedTakesNothing
 
 -- ---- Beyond the demand: runs that the receiver has marked may be as long as depth · r, since a marked symbol costs half of an unmarked one.
 

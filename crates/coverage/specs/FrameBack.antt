@@ -189,7 +189,10 @@ module _ (f : Framing) (ok : T (allowedFrame f)) where
             sequence = ap (λ (z : Received). z .sequence) x;
           }
 
-      -- and there is one
+      -- and there is one, whatever area of A bytes is lent
+      pub answered-in : (lent : List ℕ) → length lent ≡ areaSize f → (r : Answer) × Receives f (frame .slots) (frame .marks) lent (r .received) (r .area)
+      answered-in lent size = (record { received = answer; area = area }, answered-so lent size)
+
       pub some-answer : (r : Answer) × Answers f frame r
       some-answer = (
         record { received = answer; area = area },

@@ -2,6 +2,7 @@ pub mod Runs
 pub mod Channel
 pub mod Each
 pub mod Frame
+pub mod Masts
 pub mod Line
 pub mod Coverage
 pub mod Places
@@ -9,6 +10,7 @@ pub mod RunsCovered
 pub mod Words
 pub mod FrameBack
 pub mod FramesBack
+pub mod MastsBack
 pub mod LineCalls
 pub mod LineBack
 pub mod CrossBack

@@ -1,8 +1,9 @@
--- Demand 3 holds.
+-- Demand 3 holds, for two masts too.
 -- Assumes nothing.
-use Rattle.coverage.specs.Coverage.{Demand3, Beyond}
+use Rattle.coverage.specs.Coverage.{Demand3, TwoMasts, Beyond}
 use Rattle.coverage.specs.FrameBack.{frame-comes-back}
 use Rattle.coverage.specs.FramesBack.{frames-come-back, frames-run-come-back, no-two-frames-alike}
+use Rattle.coverage.specs.MastsBack.{two-masts-come-back, two-masts-noted, no-two-masts-alike, refused-takes-nothing}
 use Rattle.coverage.specs.LineBack.{line-comes-back, no-two-lines-alike}
 use Rattle.coverage.specs.RunsCovered.{frame-run-within, line-run-within, line-runs-within, frame-marked-runs-within, line-marked-runs-within}
 
@@ -18,6 +19,9 @@ demand-3 = record {
   frames-differ = no-two-frames-alike;
   lines-differ = no-two-lines-alike;
 }
+
+pub two-masts : TwoMasts
+two-masts = record { back = two-masts-come-back; noted-once = two-masts-noted; differ = no-two-masts-alike; refused = refused-takes-nothing }
 
 pub marked-runs : Beyond
 marked-runs = record { frame = frame-marked-runs-within; line = line-marked-runs-within }
