@@ -23,9 +23,10 @@ extern "C" {
 #endif
 
 /*
- * The numbers that a call answers, checked in the order 1, 2, 3, 6, 4, 5; on the cross line 7 comes before 4.
- * Under 1, 2, 3 and 6 every lent buffer and record stays as it was. What 4, 5 and 7 leave stands at each call.
- * Under any answer but 0 the returned figures, sequence number, byte and mark are 0.
+ * The numbers that a call answers, checked in the order 1, 2, 3, 6, 4, 5, 8; on the cross line 7 comes before 4.
+ * Under 1, 2, 3 and 6 every lent buffer and record stays as it was, but for the second area of two masts, which is left as
+ * its own copy's answer says. What 4, 5, 7 and 8 leave stands at each call.
+ * Under any answer but 0 the returned figures, sequence number, mast, byte and mark are 0.
  */
 #define YAXO_DONE 0         /* the result is there */
 #define YAXO_SETTING 1      /* a limit of the setting is broken, or no number of steps reaches the position */
@@ -35,6 +36,7 @@ extern "C" {
 #define YAXO_TRAILER 5      /* a frame's trailer points outside its area, or a byte before the payload is not 0 */
 #define YAXO_PAYLOAD 6      /* the payload to be sent is longer than the area less its trailer */
 #define YAXO_NOT_YET 7      /* the cross line's first 108 frames: its first message is still under way */
+#define YAXO_DIFFER 8       /* two masts: both copies are accepted, and their sequence numbers differ */
 
 /* The largest buffers: 255 symbols a word; 16 words a frame, so 4080 slots, and an area of at most 16 * 253 bytes. */
 #define YAXO_WORD_MOST 255
@@ -273,7 +275,8 @@ uint8_t yaxo_record_standing(uint8_t accepted, uint16_t last, uint16_t sequence)
 /*
  * Notes what a frame was answered: 0 counts it as newer, repeat or older, and only newer moves `last`; 4 and 5 count it as
  * refused; every other number leaves the record as it was. yaxo_record_note gives the record after it,
- * yaxo_record_note_in updates the lent one. yaxo_hear and yaxo_hear_in do it themselves.
+ * yaxo_record_note_in updates the lent one. yaxo_hear, yaxo_hear_in, yaxo_masts_hear and yaxo_masts_hear_in do it
+ * themselves.
  */
 yaxo_record yaxo_record_note(yaxo_record before, uint8_t answer, uint16_t sequence);
 void yaxo_record_note_in(yaxo_record *record, uint8_t answer, uint16_t sequence);
@@ -294,6 +297,62 @@ yaxo_received yaxo_hear_in(yaxo_record *record, yaxo_framing framing,
                            const uint8_t *slots, size_t slots_length,
                            const uint8_t *marks, size_t marks_length,
                            uint8_t *area, size_t area_length);
+
+/* ---- Two masts --------------------------------------------------------------------------------------------------- */
+
+/* Two receivers hear one frame, each with its own damage. Both copies are decoded, and the better one is used. */
+#define YAXO_MAST_NEITHER 0
+#define YAXO_MAST_FIRST 1
+#define YAXO_MAST_SECOND 2
+
+/* The mast whose copy is used, and the answer. The payload is at frame.start in that mast's area. */
+typedef struct yaxo_chosen {
+    uint8_t mast; /* YAXO_MAST_NEITHER unless frame.answer is 0 */
+    yaxo_received frame;
+} yaxo_chosen;
+
+/*
+ * Receives two copies of one frame. The buffers are those of yaxo_frame_receive, the first mast's and then the second's.
+ * Slots and marks are only read, so that one buffer may serve both copies; the two areas may not overlap. Each area is
+ * left as yaxo_frame_receive leaves it, whatever the other copy was answered.
+ * Answers 0 where a copy is used. If both were accepted with one sequence number, that is the copy whose 2e + f, summed
+ * over its words, is smaller, and the first where the sums are equal, even if the payloads differ. If one was refused, by
+ * any number, it is the other. Where both were refused the answer is the first's number, and its word under 4. 8 where both
+ * were accepted with different sequence numbers: they are two frames, and each area holds its own.
+ */
+yaxo_chosen yaxo_masts_receive(yaxo_framing framing,
+                               const uint8_t *first_slots, size_t first_slots_length,
+                               const uint8_t *first_marks, size_t first_marks_length,
+                               uint8_t *first_area, size_t first_area_length,
+                               const uint8_t *second_slots, size_t second_slots_length,
+                               const uint8_t *second_marks, size_t second_marks_length,
+                               uint8_t *second_area, size_t second_area_length);
+
+/* The record after two copies, and what they were answered. */
+typedef struct yaxo_masts_heard {
+    yaxo_record next;
+    yaxo_chosen answer;
+} yaxo_masts_heard;
+
+/*
+ * The whole call for two receivers with one record: yaxo_masts_receive, and its answer noted once. A copy that was refused
+ * beside an accepted one is not counted, and 8 leaves the record as it was. yaxo_masts_hear gives the record after it,
+ * yaxo_masts_hear_in updates the lent one.
+ */
+yaxo_masts_heard yaxo_masts_hear(yaxo_record before, yaxo_framing framing,
+                                 const uint8_t *first_slots, size_t first_slots_length,
+                                 const uint8_t *first_marks, size_t first_marks_length,
+                                 uint8_t *first_area, size_t first_area_length,
+                                 const uint8_t *second_slots, size_t second_slots_length,
+                                 const uint8_t *second_marks, size_t second_marks_length,
+                                 uint8_t *second_area, size_t second_area_length);
+yaxo_chosen yaxo_masts_hear_in(yaxo_record *record, yaxo_framing framing,
+                               const uint8_t *first_slots, size_t first_slots_length,
+                               const uint8_t *first_marks, size_t first_marks_length,
+                               uint8_t *first_area, size_t first_area_length,
+                               const uint8_t *second_slots, size_t second_slots_length,
+                               const uint8_t *second_marks, size_t second_marks_length,
+                               uint8_t *second_area, size_t second_area_length);
 
 /* ---- Cross line -------------------------------------------------------------------------------------------------- */
 

@@ -4,9 +4,10 @@ use core::fmt;
 
 use crate::ffi;
 
-/// Why a call refused. The numbers are document 01's; 0 is no refusal.
+/// Why a call refused. The numbers are those of documents 01 and 02; 0 is no refusal.
 ///
-/// Under 1, 2, 3 and 6 every lent buffer stays as it was. What 4, 5 and 7 leave is said at each call.
+/// Under 1, 2, 3 and 6 every lent buffer stays as it was, but for the second area of [two masts](crate::masts), which is
+/// left as its own copy's answer says. What 4, 5, 7 and 8 leave is said at each call.
 #[derive(Clone, Copy, Debug, PartialEq, Eq, Hash)]
 #[repr(u8)]
 pub enum Refusal {
@@ -24,15 +25,17 @@ pub enum Refusal {
     Payload = 6,
     /// The cross line's first 108 frames: the first message is still under way.
     NotYet = 7,
+    /// Both copies of two masts are accepted, and their sequence numbers differ.
+    Differ = 8,
 }
 
 impl Refusal {
-    /// Document 01's number.
+    /// The documents' number.
     pub const fn number(self) -> u8 {
         self as u8
     }
 
-    /// The refusal of a number that is not 0. The library is proved to answer 0 to 7, so the last arm is 7.
+    /// The refusal of a number that is not 0. The library is proved to answer 0 to 8, so the last arm is 8.
     const fn of(number: u8) -> Refusal {
         match number {
             1 => Refusal::Setting,
@@ -41,7 +44,8 @@ impl Refusal {
             4 => Refusal::BeyondReach,
             5 => Refusal::Trailer,
             6 => Refusal::Payload,
-            _ => Refusal::NotYet,
+            7 => Refusal::NotYet,
+            _ => Refusal::Differ,
         }
     }
 }
@@ -56,6 +60,7 @@ impl fmt::Display for Refusal {
             Refusal::Trailer => "the trailer does not fit the frame",
             Refusal::Payload => "the payload is longer than the frame has room for",
             Refusal::NotYet => "the first message is still under way",
+            Refusal::Differ => "the two copies have different sequence numbers",
         })
     }
 }

@@ -9,8 +9,10 @@
 
 mod header;
 
+use crate::masts::Heard;
+
 pub use header::{
-    Code, CrossReceived, Decoded, Figures, Framing, Line, LineReceived, LineSent, Ready, Received, Record,
+    Chosen, Code, CrossReceived, Decoded, Figures, Framing, Line, LineReceived, LineSent, Ready, Received, Record,
 };
 
 pub fn word_is_allowed(code: Code) -> bool {
@@ -154,6 +156,55 @@ pub fn record_standing(accepted: u8, last: u16, sequence: u16) -> u8 {
 pub fn record_note_in(record: &mut Record, answer: u8, sequence: u16) {
     // Sound: one record, lent to this call alone.
     unsafe { header::yaxo_record_note_in(record, answer, sequence) }
+}
+
+pub fn masts_receive(framing: Framing, first: &mut Heard, second: &mut Heard) -> Chosen {
+    let mut out = Chosen::default();
+    // Sound: the result's place and six slices; the place and the two written slices overlap nothing.
+    unsafe {
+        header::yaxo_masts_receive(
+            &mut out,
+            framing,
+            first.slots.as_ptr(),
+            first.slots.len(),
+            first.marks.as_ptr(),
+            first.marks.len(),
+            first.area.as_mut_ptr(),
+            first.area.len(),
+            second.slots.as_ptr(),
+            second.slots.len(),
+            second.marks.as_ptr(),
+            second.marks.len(),
+            second.area.as_mut_ptr(),
+            second.area.len(),
+        )
+    };
+    out
+}
+
+pub fn masts_hear_in(record: &mut Record, framing: Framing, first: &mut Heard, second: &mut Heard) -> Chosen {
+    let mut out = Chosen::default();
+    // Sound: the result's place, a record and six slices; what is written of them overlaps nothing.
+    unsafe {
+        header::yaxo_masts_hear_in(
+            &mut out,
+            record,
+            framing,
+            first.slots.as_ptr(),
+            first.slots.len(),
+            first.marks.as_ptr(),
+            first.marks.len(),
+            first.area.as_mut_ptr(),
+            first.area.len(),
+            second.slots.as_ptr(),
+            second.slots.len(),
+            second.marks.as_ptr(),
+            second.marks.len(),
+            second.area.as_mut_ptr(),
+            second.area.len(),
+        )
+    };
+    out
 }
 
 pub fn cross_fresh_sender(memory: &mut [u8]) -> Ready {

@@ -53,7 +53,7 @@ impl Frame<'_> {
 /// Why a frame was refused.
 #[derive(Clone, Copy, Debug, PartialEq, Eq, Hash)]
 pub struct Refused {
-    /// The reason: 1 to 5.
+    /// The reason: 1 to 5, or 8 where [two masts](crate::masts) were heard.
     pub why: Refusal,
     /// The first word that is beyond reach where that is the reason, else 0.
     pub word: usize,
@@ -82,7 +82,7 @@ impl Setting {
         self.depth.saturating_mul(self.n.saturating_sub(self.r))
     }
 
-    fn framing(self) -> ffi::Framing {
+    pub(crate) fn framing(self) -> ffi::Framing {
         ffi::Framing { depth: narrow(self.depth), n: narrow(self.n), r: narrow(self.r), b: narrow(self.b) }
     }
 
@@ -119,7 +119,7 @@ impl Setting {
     }
 
     /// What the library answered, with the payload taken from the area.
-    fn frame(self, received: ffi::Received, area: &[u8]) -> Result<Frame<'_>, Refused> {
+    pub(crate) fn frame(self, received: ffi::Received, area: &[u8]) -> Result<Frame<'_>, Refused> {
         let end = received.start.saturating_add(received.length);
         let frame = Frame {
             sequence: received.sequence,

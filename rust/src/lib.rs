@@ -1,6 +1,6 @@
 //! Reed-Solomon words, frames and delay lines for position reports on a noisy radio link.
 //!
-//! The code behind these calls is written in Rattle and proved: for every input a call answers as document 01 says, stays
+//! The code behind these calls is written in Rattle and proved: for every input a call answers as the documents say, stays
 //! within the buffers that it was lent, and ends. This crate is its face for Rust. Buffers are slices, settings are
 //! small structs whose fields are checked at each call, and a call that refuses says why with a [`Refusal`].
 //!
@@ -9,6 +9,7 @@
 //! | encode and decode single words, with marks where the receiver distrusts a symbol | [`word::Setting`] |
 //! | send payloads with sequence numbers as interleaved frames, and receive them | [`frame::Setting`] |
 //! | know what is new, repeated, old or lost | [`record::Record`] |
+//! | take the better of two copies of a frame, from two receivers | [`masts::Heard`] |
 //! | spread words over time without frames | [`line::Sender`], [`line::Receiver`] |
 //! | use the two codes of the compact disc | [`cross::Sender`], [`cross::Receiver`] |
 //! | interleave blocks alone | [`block::spread`], [`block::gather`] |
@@ -34,6 +35,7 @@ pub mod cross;
 mod ffi;
 pub mod frame;
 pub mod line;
+pub mod masts;
 pub mod record;
 pub mod word;
 

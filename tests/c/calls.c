@@ -188,6 +188,73 @@ static void frame(void)
     EXPECT(record.accepted == 7 && record.last == 300 && record.newer == 2 && record.repeat == 0 && record.older == 1 && record.refused == 1);
 }
 
+/* Two masts: two copies of the frame above and of its neighbour, by each way in which one of them is used or none. */
+static void masts(void)
+{
+    const yaxo_framing framing = { 2, 5, 2, 0 };
+    const uint8_t none[10] = { 0 };
+    const uint8_t one[10] = { 1 };
+    const uint8_t two[10] = { 1, 1 };
+    const uint8_t three[10] = { 0, 1, 0, 1, 0, 1 }; /* word 1 has more marks than check bytes */
+    const uint8_t bad[10] = { 0, 0, 2 };
+    uint8_t sent[10], struck[10], next[10];
+    uint8_t first[6] = { 9, 9, 9, 9, 9, 9 };
+    uint8_t second[6] = { 9, 9, 9, 9, 9, 9 };
+    yaxo_record record = yaxo_record_fresh();
+    yaxo_chosen got;
+    yaxo_masts_heard heard;
+
+    EXPECT(yaxo_frame_send(framing, (const uint8_t *)"A", 1, 258, sent, 10) == YAXO_DONE);
+    EXPECT(yaxo_frame_send(framing, (const uint8_t *)"BC", 2, 259, next, 10) == YAXO_DONE);
+    memcpy(struck, sent, 10);
+    struck[2] = 0;
+
+    /* An error weighs two and a mark one: the better copy is the second, then the first, and then neither is better. */
+    got = yaxo_masts_receive(framing, struck, 10, none, 10, first, 6, sent, 10, one, 10, second, 6);
+    EXPECT(got.mast == YAXO_MAST_SECOND && got.frame.answer == YAXO_DONE && got.frame.word == 0 && got.frame.sequence == 258);
+    EXPECT(got.frame.start == 1 && got.frame.length == 1 && second[got.frame.start] == 'A');
+    EXPECT(has_figures(got.frame.figures[0], 0, 1, 0) && has_figures(got.frame.figures[15], 0, 0, 0));
+    SAME(first, { 0, 65, 1, 0, 2, 1 });
+    SAME(second, { 0, 65, 1, 0, 2, 1 });
+    got = yaxo_masts_receive(framing, sent, 10, one, 10, first, 6, struck, 10, none, 10, second, 6);
+    EXPECT(got.mast == YAXO_MAST_FIRST && has_figures(got.frame.figures[0], 0, 1, 0));
+    got = yaxo_masts_receive(framing, struck, 10, none, 10, first, 6, sent, 10, two, 10, second, 6);
+    EXPECT(got.mast == YAXO_MAST_FIRST && has_figures(got.frame.figures[0], 1, 0, 2) && has_figures(got.frame.figures[1], 0, 0, 0));
+    got = yaxo_masts_receive((yaxo_framing){ 1, 5, 2, 0 }, sent, 5, none, 5, first, 3, sent, 5, none, 5, second, 3);
+    EXPECT(got.mast == YAXO_MAST_NEITHER && got.frame.answer == YAXO_SETTING);
+
+    /* One refused: the other is used, and only it is counted. The record is the lent one, then the one that is given. */
+    got = yaxo_masts_hear_in(&record, framing, sent, 10, three, 10, first, 6, sent, 10, none, 10, second, 6);
+    EXPECT(got.mast == YAXO_MAST_SECOND && got.frame.answer == YAXO_DONE && got.frame.start == 1 && got.frame.length == 1);
+    EXPECT(record.accepted == 1 && record.last == 258 && record.newer == 1 && record.refused == 0);
+    SAME(first, { 0, 0, 0, 0, 0, 0 });
+    memset(second, 9, 6);
+    heard = yaxo_masts_hear(record, framing, next, 10, none, 10, first, 6, sent, 9, none, 10, second, 6);
+    EXPECT(heard.answer.mast == YAXO_MAST_FIRST && heard.answer.frame.sequence == 259);
+    EXPECT(heard.answer.frame.start == 0 && heard.answer.frame.length == 2);
+    EXPECT(heard.next.last == 259 && heard.next.newer == 2 && heard.next.refused == 0 && record.newer == 1);
+    SAME(first, { 66, 67, 2, 0, 3, 1 });
+    SAME(second, { 9, 9, 9, 9, 9, 9 });
+
+    /* Both refused: the first's number and word decide, and each area is left by its own copy's answer. */
+    memset(first, 9, 6);
+    got = yaxo_masts_hear_in(&record, framing, sent, 10, bad, 10, first, 6, sent, 10, three, 10, second, 6);
+    EXPECT(got.mast == YAXO_MAST_NEITHER && got.frame.answer == YAXO_SYMBOL && got.frame.word == 0 && record.refused == 0);
+    SAME(first, { 9, 9, 9, 9, 9, 9 });
+    SAME(second, { 0, 0, 0, 0, 0, 0 });
+    got = yaxo_masts_hear_in(&record, framing, sent, 10, three, 10, first, 6, sent, 10, bad, 10, second, 6);
+    EXPECT(got.mast == YAXO_MAST_NEITHER && got.frame.answer == YAXO_BEYOND_REACH && got.frame.word == 1 && got.frame.length == 0);
+    EXPECT(record.last == 258 && record.newer == 1 && record.refused == 1);
+
+    /* Two frames: neither is used, both are decoded, and the record stays. */
+    got = yaxo_masts_hear_in(&record, framing, struck, 10, none, 10, first, 6, next, 10, one, 10, second, 6);
+    EXPECT(got.mast == YAXO_MAST_NEITHER && got.frame.answer == YAXO_DIFFER && got.frame.word == 0 && got.frame.sequence == 0);
+    EXPECT(got.frame.start == 0 && got.frame.length == 0 && has_figures(got.frame.figures[0], 0, 0, 0));
+    EXPECT(record.last == 258 && record.newer == 1 && record.repeat == 0 && record.older == 0 && record.refused == 1);
+    SAME(first, { 0, 65, 1, 0, 2, 1 });
+    SAME(second, { 66, 67, 2, 0, 3, 1 });
+}
+
 /* The cross line both ways: a run of ten lost frames, and each message 108 frames after it was sent. */
 static void cross(void)
 {
@@ -240,6 +307,7 @@ int main(void)
     block();
     line();
     frame();
+    masts();
     cross();
     return failures == 0 ? 0 : 1;
 }

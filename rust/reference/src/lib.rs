@@ -1,4 +1,4 @@
-//! A second codec, written from document 01 alone, to judge the proved library.
+//! A second codec, written from documents 01 and 02 alone, to judge the proved library.
 //!
 //! It shares nothing with the library: its tables are made from the field's polynomial, it encodes by long division,
 //! and it decodes by the method of Berlekamp and Massey, Chien's search and Forney's rule. For the field of eight
@@ -14,6 +14,7 @@ pub mod cross;
 pub mod field;
 pub mod frame;
 pub mod line;
+pub mod masts;
 pub mod noise;
 pub mod record;
 pub mod search;

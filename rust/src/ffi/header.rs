@@ -1,10 +1,11 @@
 //! `include/yaxopetzo.h` in Rust: its structs, field by field, and its declarations.
 //!
-//! Two calls of the header are left out, those that take and give a record by value: the face lends one.
+//! Three calls of the header are left out, those that take and give a record by value: the face lends one.
 //!
-//! Three calls give more than 16 bytes (`record_fresh`, `frame_receive`, `hear_in`). On x86-64 C hands over the result's place
-//! as a hidden first argument. Here it is a plain first argument, which is the same call: the archive that
-//! `tools/native-archive` makes for another processor has it so too, where C's own rule would be another.
+//! Five calls give more than 16 bytes (`record_fresh`, `frame_receive`, `hear_in`, `masts_receive`, `masts_hear_in`). On
+//! x86-64 C hands over the result's place as a hidden first argument. Here it is a plain first argument, which is the same
+//! call: the archive that `tools/native-archive` makes for another processor has it so too, where C's own rule would be
+//! another.
 
 /// `yaxo_figures`.
 #[derive(Clone, Copy, Default)]
@@ -99,6 +100,14 @@ pub struct Record {
     pub refused: u32,
 }
 
+/// `yaxo_chosen`.
+#[derive(Default)]
+#[repr(C)]
+pub struct Chosen {
+    pub mast: u8,
+    pub frame: Received,
+}
+
 /// `yaxo_cross_received`.
 #[repr(C)]
 pub struct CrossReceived {
@@ -188,6 +197,39 @@ extern "C" {
     pub fn yaxo_record_fresh(out: *mut Record);
     pub fn yaxo_record_standing(accepted: u8, last: u16, sequence: u16) -> u8;
     pub fn yaxo_record_note_in(record: *mut Record, answer: u8, sequence: u16);
+    pub fn yaxo_masts_receive(
+        out: *mut Chosen,
+        framing: Framing,
+        first_slots: *const u8,
+        first_s: usize,
+        first_marks: *const u8,
+        first_marks_s: usize,
+        first_area: *mut u8,
+        first_a: usize,
+        second_slots: *const u8,
+        second_s: usize,
+        second_marks: *const u8,
+        second_marks_s: usize,
+        second_area: *mut u8,
+        second_a: usize,
+    );
+    pub fn yaxo_masts_hear_in(
+        out: *mut Chosen,
+        record: *mut Record,
+        framing: Framing,
+        first_slots: *const u8,
+        first_s: usize,
+        first_marks: *const u8,
+        first_marks_s: usize,
+        first_area: *mut u8,
+        first_a: usize,
+        second_slots: *const u8,
+        second_s: usize,
+        second_marks: *const u8,
+        second_marks_s: usize,
+        second_area: *mut u8,
+        second_a: usize,
+    );
     pub fn yaxo_cross_fresh_sender(memory: *mut u8, size: usize) -> Ready;
     pub fn yaxo_cross_fresh_receiver(memory: *mut u8, size: usize, held: *mut u8, h: usize) -> Ready;
     pub fn yaxo_cross_send(

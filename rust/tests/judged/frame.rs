@@ -2,29 +2,42 @@
 
 use reference::noise::Noise;
 use reference::{code, frame as plain, record as plain_record};
-use yaxopetzo::frame::{Refused, Setting};
+use yaxopetzo::frame::{Frame, Refused, Setting};
 use yaxopetzo::record::Record;
 use yaxopetzo::Refusal;
 
 use crate::record;
 use crate::same::counted;
 
-fn plain(s: Setting) -> plain::Setting {
+/// The reference's form of a setting.
+pub fn plain(s: Setting) -> plain::Setting {
     plain::Setting { depth: s.depth, n: s.n, r: s.r, b: s.b }
 }
 
 /// What an accepted frame holds, or number and word of a refusal.
 type Answer = Result<plain::Frame, (u8, usize)>;
 
-/// The reference's form of what the face answers. The payload's place in the area is compared too.
-fn heard(s: Setting, record: &mut Record, slots: &[u8], marks: &[u8], area: &mut [u8]) -> Answer {
-    let end = area.as_ptr() as usize + area.len();
-    let answer = s.hear(record, slots, marks, area);
-    let numbered = |refused: Refused| (refused.why.number(), refused.word);
-    let frame = answer.map_err(numbered)?;
+/// The reference's form of a refusal.
+pub fn numbered(refused: Refused) -> (u8, usize) {
+    (refused.why.number(), refused.word)
+}
+
+/// The address at which an area ends.
+pub fn end(area: &[u8]) -> usize {
+    area.as_ptr() as usize + area.len()
+}
+
+/// The reference's form of a frame that was accepted into the area with this end, of which its payload must be a part.
+pub fn accepted(frame: Frame, end: usize) -> plain::Frame {
     assert_eq!(frame.payload.as_ptr() as usize + frame.payload.len() + 4, end, "the payload is no part of the area");
     let figures: Vec<code::Figures> = frame.words().iter().map(|&f| counted(f)).collect();
-    Ok(plain::Frame { sequence: frame.sequence, payload: frame.payload.to_vec(), figures })
+    plain::Frame { sequence: frame.sequence, payload: frame.payload.to_vec(), figures }
+}
+
+/// The reference's form of what the face answers. The payload's place in the area is compared too.
+fn heard(s: Setting, record: &mut Record, slots: &[u8], marks: &[u8], area: &mut [u8]) -> Answer {
+    let end = end(area);
+    s.hear(record, slots, marks, area).map(|frame| accepted(frame, end)).map_err(numbered)
 }
 
 /// Receives on both sides, alone and with the record.
@@ -59,7 +72,7 @@ fn sent(s: Setting, payload: &[u8], sequence: u16, before: &[u8]) -> (Result<(),
 }
 
 /// A setting within the limits, its corners often.
-fn setting(noise: &mut Noise) -> Setting {
+pub fn setting(noise: &mut Noise) -> Setting {
     loop {
         let depth = *[1, 2, 3, 16, noise.between(1, 16)].get(noise.below(5)).unwrap_or(&1);
         let r = *[2, 3, 16, noise.between(2, 16)].get(noise.below(4)).unwrap_or(&2);
@@ -72,16 +85,21 @@ fn setting(noise: &mut Noise) -> Setting {
 }
 
 /// Damages each word within the bound; a word that is named is struck beyond it.
-fn damage(noise: &mut Noise, s: Setting, slots: &mut [u8], marks: &mut [u8], beyond: Option<usize>) {
+pub fn damage(noise: &mut Noise, s: Setting, slots: &mut [u8], marks: &mut [u8], beyond: Option<usize>) {
     for w in 0..s.depth {
         let f = noise.below(s.r + 1);
         let within = noise.below((s.r - f) / 2 + 1);
         let e = if beyond == Some(w) { (s.r - f) / 2 + 1 } else { within };
-        let places = noise.places(s.n, f + e);
-        for (number, place) in places.iter().map(|i| i * s.depth + w).enumerate() {
-            marks[place] = (number < f) as u8;
-            slots[place] ^= noise.between((number >= f) as usize, 255) as u8;
-        }
+        strike(noise, s, w, (e, f), slots, marks);
+    }
+}
+
+/// Strikes a word in e unmarked places and in f marked ones, of which some stay as they were.
+pub fn strike(noise: &mut Noise, s: Setting, w: usize, (e, f): (usize, usize), slots: &mut [u8], marks: &mut [u8]) {
+    let places = noise.places(s.n, f + e);
+    for (number, place) in places.iter().map(|i| i * s.depth + w).enumerate() {
+        marks[place] = (number < f) as u8;
+        slots[place] ^= noise.between((number >= f) as usize, 255) as u8;
     }
 }
 
@@ -162,7 +180,7 @@ fn trailers() {
 }
 
 /// Every limit from both sides, and A from 0 to 5.
-fn around_the_limits() -> Vec<Setting> {
+pub fn around_the_limits() -> Vec<Setting> {
     let depths = [0, 1, 2, 3, 4, 16, 17, 258, usize::MAX];
     let words = [(3, 2), (4, 2), (5, 2), (6, 2), (255, 16), (256, 16), (20, 17), (20, 1), (16, 16), (0, 0), (261, 2)];
     let pairs = depths.iter().flat_map(|&depth| words.map(|word| (depth, word)));

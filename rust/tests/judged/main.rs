@@ -4,9 +4,11 @@
 //! afterwards. Seeds are fixed. `cargo test --release -- --show-output` tells how many comparisons each test made.
 
 mod block;
+mod copies;
 mod cross;
 mod frame;
 mod line;
+mod masts;
 mod outside;
 mod record;
 mod refusals;
