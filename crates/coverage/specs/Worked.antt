@@ -1,16 +1,18 @@
--- The demand is not empty: here are a frame, two frames end to end and a delay line that it speaks of.
+-- The demand is not empty: here are a frame, its copies at two masts, two frames end to end and a delay line that it speaks of.
 -- Assumes nothing.
 use mathlib.Core.Path.{_≡_, refl, sym}
 use mathlib.Core.Bool.{Bool, true, false, _&&_, _||_}
 use mathlib.Core.Logic.{inl}
 use mathlib.Core.List.{List, [], _∷_}
 use Prim.Native.Nat.{ℕ, zero, suc, _+_}
+use native.Mathlib.Decide.{ℕ-discrete}
 use native.Mathlib.Omega.{arith}
 use lib.Dec.{T, lit≤, eqb, eqb→eq, leb, ltb, leb→le, ltb→lt}
 use lib.ListN.{length, replicate}
 use Rattle.algebra.specs.Xor.{_⊕_}
 use Rattle.algebra.specs.Tests.{at, total, each, each-at, below, and-left, and-right}
 use Rattle.algebra.specs.Lists.{tabulate, joined}
+use Rattle.algebra.specs.Refusal.{passes as decided, need-yes, need-no}
 use Rattle.field.specs.Field.{times, reduce, product, power}
 use Rattle.field.specs.Answers.{isField}
 use Rattle.word.specs.Setting.{allowed}
@@ -23,10 +25,14 @@ use Rattle.word.specs.declared.Encoded.the-variants as E
 use Rattle.rings.specs.Delay.{answer, memory, position, lineOut, lineKept}
 use Rattle.rings.specs.Rings.{ring, tri}
 use Rattle.interleave.specs.Line.{period, common}
+use Rattle.frame.specs.Frame.{allowedFrame, refusedWith, receiveRefusal}
+use Rattle.frame.specs.Receiving.{receive-refused}
 use Rattle.frame.specs.FrameExample.{example, slotsOut, slotsIn, sent-example}
 use Rattle.frame.specs.declared.setting.Sent.the-variants.{Done}
 use Rattle.coverage.specs.Channel.{endToEnd, Layout, OnWords, AllWithin, Struck, OneRun}
 use Rattle.coverage.specs.Frame.{Message, FrameSent, inFrame, inFrames, Frame, Arrives, StreamArrives}
+use Rattle.link.specs.Masts.{copyOf}
+use Rattle.coverage.specs.Masts.{Refused, Copies, MastsArrive}
 use Rattle.coverage.specs.Line.{LineSetting, codeOf, LineAllowed, WordSent, fed, LineSent, slotOf, onLine, LineArrives}
 use Rattle.coverage.specs.RunsCovered.{line-run-within}
 use Rattle.coverage.specs.LineBack.{line-sent}
@@ -88,6 +94,22 @@ frame-arrives = record {
   channel = record { slots-size = refl; marks-size = refl; bytes = tt; zero-or-one = tt };
   within = one-each;
 }
+
+-- that frame at the first mast, while the second has received nothing at all and is refused 2
+
+abbrev copies : Copies
+copies = record { first = copyOf slotsIn (replicate 10 0) (replicate 6 0); second = copyOf [] [] [] }
+
+second-refused : Refused example (copies .second)
+unfolding receiveRefusal allowedFrame allowed isField
+second-refused = record {
+  answer = record { received = refusedWith 2 0; area = [] };
+  promise = receive-refused example [] [] [] 2 (need-yes (decided (allowedFrame example)) 1 _ 2 tt (need-no (ℕ-discrete 0 10) 2 _ λ e. absurd (omega arith))) (lit≤ tt);
+  number = λ e. absurd (omega arith);
+}
+
+pub masts-arrive : MastsArrive example message copies
+masts-arrive = inl (record { arrives = frame-arrives; room = refl }, inl second-refused)
 
 -- the same frame twice, end to end, with a run of J·t = 2 slots across the border
 

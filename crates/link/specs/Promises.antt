@@ -8,7 +8,8 @@ use Rattle.frame.specs.Frame.{handedBack, receiving, numberOf}
 use Rattle.frame.specs.Promises.{Receives, receives-once}
 use Rattle.record.specs.Promises.{Notes}
 use Rattle.link.specs.Receiver.{HearOutcome, hearOutcome, hearing}
-use Rattle.link.specs.Masts.{Copy, MastsOutcome, choosing, chosenOutcome, Chooses, receivingMasts, HearMastsOutcome, hearMastsOutcome, hearingMasts, handedBackMasts, payloadOfUsed, usedCopy}
+use Rattle.link.specs.Masts.{Copy, alone, MastsOutcome, choosing, chosenOutcome, Chooses, receivingMasts, HearMastsOutcome, hearMastsOutcome, hearingMasts, handedBackMasts, payloadOfUsed, usedCopy}
+use Rattle.link.specs.Masts.Laws.{own-areas}
 use Rattle.link.specs.declared.choice.Chosen.{Chosen}
 use Rattle.frame.specs.declared.setting.Framing.{Framing}
 use Rattle.frame.specs.declared.setting.Received.{Received}
@@ -90,3 +91,11 @@ pub masts-received-and-noted : {before : Record} {f : Framing} {first second : C
     → ReceivesMasts f first second answer x y → Notes before (answer .number) (answer .sequence) next → HearsMasts before f first second answer next x y
 unfolding hearingMasts
 masts-received-and-noted e n = record { outcome = rw (sym (e .outcome), n .outcome) }
+
+-- each area is left as its copy's own call leaves it: a wrong length or mark in one copy never touches the other's
+pub areas-apart : {f : Framing} {first second : Copy} {answer : Chosen} {x y : List ℕ}
+    → ReceivesMasts f first second answer x y → (x ≡ alone f first .area) × (y ≡ alone f second .area)
+unfolding receivingMasts
+areas-apart {f = f} {first = first} {second = second} p =
+    let (l, m) = own-areas (alone f first) (alone f second) in
+    (ap (λ (o : MastsOutcome). o .first) (p .outcome) ∙ l, ap (λ (o : MastsOutcome). o .second) (p .outcome) ∙ m)

@@ -1,15 +1,16 @@
 -- The answers of choosing one by one: where one copy is refused, where both are, and where both are accepted.
 -- Assumes nothing.
 use mathlib.Core.Path.{_≡_, refl, sym, ap, _∙_}
-use mathlib.Core.Bool.{not}
+use mathlib.Core.Bool.{Bool, true, false, not}
 use mathlib.Core.Logic.{_≢_}
 use mathlib.Core.List.{List, []}
-use Prim.Native.Nat.{ℕ, _≤_, _<_}
+use Prim.Native.Nat.{ℕ, zero, suc, _≤_, _<_}
 use native.Mathlib.Decide.{ℕ-discrete, decLe}
 use native.Mathlib.Omega.{arith}
 use borrow.Author.Tests.{eq-eqb, ne-eqb, le-leb, lt-leb}
 use Rattle.algebra.specs.Tests.{if_then_else_, total}
-use Rattle.algebra.specs.Refusal.{new, kept}
+use lib.Dec.{leb, eqb}
+use Rattle.algebra.specs.Refusal.{ifZero, new, kept}
 use Rattle.word.specs.declared.Figures.{Figures}
 use Rattle.frame.specs.Frame.{ReceiveOutcome, receiveOutcome, refusedFrame, numberOf, wordNumber, isDone, payloadIn, payloadOf}
 use Rattle.frame.specs.Promises.{verdict-as}
@@ -63,6 +64,29 @@ module _ (a b : ReceiveOutcome) where
     choosing-better-second s l =
         let e : giving a b Second b ≡ bothAccepted a b = rw (eq-eqb (a .sequence) (b .sequence) s, lt-leb (damage (a .figures)) (damage (b .figures)) l) in
         e ∙ choosing-accepted
+
+  -- ---- the areas
+
+  -- each is left as its own copy's call leaves it, whatever the other copy is and whichever is used
+  abbrev OwnAreas : MastsOutcome → Type 0
+  OwnAreas o = (o .first ≡ a .area) × (o .second ≡ b .area)
+
+  own-if-zero : (n : ℕ) (x y : MastsOutcome) → OwnAreas x → OwnAreas y → OwnAreas (ifZero n x y)
+  own-if-zero zero x y p q = p
+  own-if-zero (suc n) x y p q = q
+
+  own-if : (t : Bool) (x y : MastsOutcome) → OwnAreas x → OwnAreas y → OwnAreas (if t then x else y)
+  own-if true x y p q = p
+  own-if false x y p q = q
+
+  pub own-areas : OwnAreas (choosing a b)
+  unfolding choosing bothAccepted
+  own-areas =
+      own-if-zero (a .number) _ _
+      (own-if-zero (b .number) _ _
+      (own-if (not (eqb (a .sequence) (b .sequence))) _ _ (refl, refl) (own-if (leb (damage (a .figures)) (damage (b .figures))) _ _ (refl, refl) (refl, refl)))
+      (refl, refl))
+      (own-if-zero (b .number) _ _ (refl, refl) (refl, refl))
 
 -- ---- the code's answers
 
