@@ -17,7 +17,7 @@ pub enum Mast {
 }
 
 // What two copies of a frame are answered together: the paper's number, the refused word's, and of an accepted frame its numbers and the
-// figures of each word. They are those of the copy that is used.
+// figures of each word. They are those of the copy that is used. Where neither is, they are the first's refusal, or 8 and zeros.
 pub struct Chosen {
     pub mast: Mast,
     pub number: u8,
@@ -27,7 +27,7 @@ pub struct Chosen {
     pub figures: [Figures; 16],
 }
 
-// 2e + f of a word.
+// 2e + f of a word: at most three times the largest number of 16 bits, so that sixteen of them fit 32 bits.
 fn damage_of(found: Figures) -> u32
     ensures { λ r. ⌜ (r ≡ damageOf found) × (r ≤ 196605) ⌝ }
 {

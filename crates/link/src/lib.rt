@@ -1,6 +1,7 @@
 // The link: document 01, sections Block interleaver and frame, and Receiver's record. A payload and its sequence number are sent as one
 // frame of interleaved words; a received frame is decoded into a lent message area, which then holds the payload; and what each frame was
-// answered is noted in the receiver's record. What each call promises stands in specs/Promises.antt, and in those of frame and record.
+// answered is noted in the receiver's record. Two receivers may hear one frame: document 02, No. 1, Two masts. What each call promises stands in
+// specs/Promises.antt, and in those of frame and record.
 mod choice;
 mod hearing;
 mod masts;
