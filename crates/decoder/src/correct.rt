@@ -7,8 +7,8 @@ ghost use Rattle.decoder.specs.Corrections.{Weighs, ErrorListed, TakenOu
 use crate::peel::distance;
 use crate::peel::list;
 use crate::peel::peel_listed;
+use field::shifts::inverse_at;
 use field::shifts::times;
-use field::tables::inverse_at;
 
 // The weight of a place of locator x in the first power sum of a code whose roots begin at a^b: x^b.
 fn weight(b: usize, x: u8) -> u8

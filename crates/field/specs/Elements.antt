@@ -11,7 +11,6 @@ use native.Mathlib.Omega.{arith}
 use borrow.Author.Tests.{eq-eqb, ne-eqb}
 use lib.Bits.{bitXor}
 use lib.Dec.{eqb}
-use lib.ListN.{getD}
 use lib.Pow.{pow-lt}
 use Rattle.algebra.specs.Xor.{_⊕_, same-below}
 use Rattle.algebra.specs.Tests.{if_then_else_}
@@ -20,9 +19,10 @@ use Rattle.algebra.specs.Horner.{pow}
 use Rattle.algebra.specs.Numbers.{Field, lift}
 use Rattle.field.specs.Field.{power, modulus, mul, a^}
 use Rattle.field.specs.Products.{product-one, product-below, product-assoc, product-comm, product-right}
-use Rattle.field.specs.Powers.{Rules, power-below, power-once, inverse-log}
-use Rattle.field.specs.Gf3.{powers3, exponents3, rules3}
-use Rattle.field.specs.Gf8.{powers8, exponents8, rules8}
+use Rattle.field.specs.Raised.{raised, raised-below}
+use Rattle.field.specs.Powers.{Rules, power-below, power-not-one, raised-inverse}
+use Rattle.field.specs.Gf3.{powers3, rules3}
+use Rattle.field.specs.Gf8.{powers8, rules8}
 
 -- the width of the field that m names: 3, or else 8
 unfoldable pub wide : ℕ → ℕ
@@ -36,32 +36,22 @@ pub wide-8 : (m : ℕ) → m ≢ 3 → wide m ≡ 8
 unfolding wide
 wide-8 m ne = rw (ne-eqb m 3 ne)
 
--- a field's two tables, with their rules
+-- a field's table of powers, with its rule
 pub record Known (m : ℕ) : Type 0 where
   pub powers : List ℕ
-  pub exponents : List ℕ
-  pub rules : Rules m (modulus m) powers exponents
+  pub rules : Rules m (modulus m) powers
 
 -- those of the two fields, by whether m is 3
 tables : (three : Bool) → Known (if three then 3 else 8)
-tables true = record { powers = powers3; exponents = exponents3; rules = rules3 }
-tables false = record { powers = powers8; exponents = exponents8; rules = rules8 }
+tables true = record { powers = powers3; rules = rules3 }
+tables false = record { powers = powers8; rules = rules8 }
 
 pub known : (m : ℕ) → Known (wide m)
 unfolding wide
 known m = tables (eqb m 3)
 
-tables-exponents : (three : Bool) → tables three .exponents ≡ (if three then exponents3 else exponents8)
-unfolding tables
-tables-exponents true = refl
-tables-exponents false = refl
-
-pub exponents-are : (m : ℕ) → known m .exponents ≡ (if eqb m 3 then exponents3 else exponents8)
-unfolding wide known
-exponents-are m = tables-exponents (eqb m 3)
-
 module _ (m : ℕ) (t : Known m) where
-  open Known t using (exponents, rules)
+  open Known t using (rules)
 
   pub one-below : 1 < 2 ^ m
   one-below = pow-lt {i = 0} {j = m} (omega (arith, rules .room))
@@ -69,22 +59,22 @@ module _ (m : ℕ) (t : Known m) where
   pub two-below : 2 < 2 ^ m
   two-below = pow-lt {i = 1} {j = m} (rules .room)
 
+  -- the power of x that x becomes 1 with
   pub inverse : ℕ → ℕ
-  inverse x = a^ m (2 ^ m - 1 - getD exponents x 0)
+  inverse x = raised m (modulus m) x (2 ^ m - 2)
 
   pub inverse-below : (x : ℕ) → inverse x < 2 ^ m
   unfolding inverse
-  inverse-below x = power-below rules _
+  inverse-below x = raised-below m (modulus m) (rules .degree) (rules .room) x (2 ^ m - 2)
 
   pub inverse-one : (x : ℕ) → 0 < x → x < 2 ^ m → mul m x (inverse x) ≡ 1
   unfolding inverse
-  inverse-one x h l = inverse-log rules x h l
+  inverse-one x h l = raised-inverse rules x h l
 
   pub undo : (x y : ℕ) → x < 2 ^ m → y < 2 ^ m → x ≢ 0 → mul m (inverse x) (mul m x y) ≡ y
-  unfolding inverse
   undo x y a b ne =
-      sym (product-assoc m (modulus m) (rules .degree) (inverse x) x y (power-below rules _) a b)
-      ∙ ap (λ (z : ℕ). mul m z y) (product-comm m (modulus m) (inverse x) x (power-below rules _) a ∙ inverse-one x (omega arith) a)
+      sym (product-assoc m (modulus m) (rules .degree) (inverse x) x y (inverse-below x) a b)
+      ∙ ap (λ (z : ℕ). mul m z y) (product-comm m (modulus m) (inverse x) x (inverse-below x) a ∙ inverse-one x (omega arith) a)
       ∙ product-one m (modulus m) y (omega (arith, rules .room)) b
 
   pub mul-xor : (x y z : ℕ) → mul m x (bitXor y z) ≡ bitXor (mul m x y) (mul m x z)
@@ -132,6 +122,5 @@ module _ (m : ℕ) where
   pub order : (n : ℕ) → n < 2 ^ wide m → (d : ℕ) → 0 < d → d < n → bitXor (pow (K m) 2 d) 1 % 2 ^ wide m ≢ 0
   unfolding power
   order n h d a b z =
-      let e : d ≡ 0 = power-once (known m .rules) d 0 (omega arith) (omega (arith, two-below (wide m) (known m)))
-      (same-below (wide m) (a^ (wide m) d) 1 (power-below (known m .rules) d) (one-below (wide m) (known m)) (rw (← pow-power d) z)) in
-      omega arith
+      power-not-one (known m .rules) d a (omega arith)
+      (same-below (wide m) (a^ (wide m) d) 1 (power-below (known m .rules) d) (one-below (wide m) (known m)) (rw (← pow-power d) z))

@@ -1,5 +1,6 @@
 pub mod Field
 pub mod Products
+pub mod Raised
 pub mod Tables
 pub mod Powers
 pub mod Gf3

@@ -1,18 +1,23 @@
--- A table of the powers of a and a table of exponents. The rule of each is a test over the whole table; from the two it follows that
--- every element but 0 is a power of a, and which one.
+-- A table of the powers of a, whose rule is a test over the whole table. From that alone it follows that a has the order 2^m - 1, that no power
+-- comes twice, and, since there are as many powers as elements but 0, that each of these is one. So its power by 2^m - 2 is its inverse.
 -- Assumes nothing.
-use mathlib.Core.Path.{_≡_, sym, ap, _∙_, subst}
-use mathlib.Core.Bool.{Bool, _&&_}
+use mathlib.Core.Path.{_≡_, refl, sym, ap, _∙_, subst}
+use mathlib.Core.Logic.{_≢_}
+use mathlib.Core.Bool.{Bool, true, false, _&&_, not}
 use mathlib.Core.List.{List, [], _∷_}
-use Prim.Native.Nat.{ℕ, zero, suc, _+_, _-_, _*_, _/_, _%_, _^_, _<_}
-use native.Mathlib.Nat.{add-zero, add-suc, zero-add, suc-add, le-of-suc-le-suc, not-suc-le-zero, div-add-mod', suc-mul, zero-mul}
+use Prim.Native.Nat.{ℕ, zero, suc, _+_, _-_, _*_, _/_, _%_, _^_, _<_, _≤_}
+use native.Mathlib.Nat.{add-zero, add-suc, zero-add, suc-add, le-of-suc-le-suc, not-suc-le-zero, div-add-mod', suc-mul, zero-mul, mul-suc, mul-zero}
+use native.Mathlib.Decide.{ℕ-discrete, decLt}
 use native.Mathlib.Omega.{arith}
-use lib.Dec.{T, eqb, ltb, eqb→eq, ltb→lt}
+use borrow.Author.Tests.{not-true, eq-eqb}
+use lib.Dec.{T, eqb, eqb→eq}
 use lib.ListN.{length, getD}
 use lib.Pow.{pow-lt}
-use Rattle.algebra.specs.Tests.{and-left, and-right}
+use Rattle.algebra.specs.Sets.{Reached, onto}
+use Rattle.algebra.specs.Tests.{and-left, and-right, passed}
 use Rattle.field.specs.Field.{product, power}
-use Rattle.field.specs.Products.{product-one, product-below, product-assoc}
+use Rattle.field.specs.Products.{product-zero-l, product-one}
+use Rattle.field.specs.Raised.{raised, raised-below, raised-add}
 use Rattle.field.specs.Tables.{every, every-at}
 
 -- the rule of a table of powers: the first entry is x, each other is the product of 2 and the one before, and 2 times the last is 1
@@ -20,14 +25,10 @@ abbrev pub doubles : ℕ → ℕ → ℕ → List ℕ → Bool
 doubles m p x [] = eqb x 1
 doubles m p x (y ∷ ys) = eqb x y && doubles m p (product m p 2 y) ys
 
--- the rule of a table of exponents, over a table of n powers ps: at x stands a number below n, and, but at 0, the power there is x
-abbrev pub exponentOf : ℕ → List ℕ → ℕ → ℕ → Bool
-exponentOf n ps zero e = ltb e n
-exponentOf n ps (suc x) e = ltb e n && eqb (getD ps e 0) (suc x)
-
--- and the other way: at the place k of the powers stands a number whose exponent is k
-abbrev pub placeOf : List ℕ → ℕ → ℕ → Bool
-placeOf es k y = eqb (getD es y 0) k
+-- and of each entry at its place k: only the first is 1
+abbrev pub oneFirst : ℕ → ℕ → Bool
+oneFirst zero y = true
+oneFirst (suc k) y = not (eqb y 1)
 
 module _ (m p : ℕ) where
   next : (i y : ℕ) → T (eqb (power m p i) y) → product m p 2 y ≡ power m p (suc i)
@@ -60,43 +61,49 @@ module _ (m p : ℕ) where
       b : Bool
       b = doubles m p (product m p 2 y) ys
 
--- a field's polynomial and its two tables, with the rule of each
-pub record Rules (m p : ℕ) (ps es : List ℕ) : Type 0 where
+-- a field's polynomial and its table of powers, with its rule
+pub record Rules (m p : ℕ) (ps : List ℕ) : Type 0 where
   pub degree : p / 2 ^ m ≡ 1
   pub room : 1 < m
   pub sized : length ps ≡ 2 ^ m - 1
-  pub covers : length es ≡ 2 ^ m
   pub doubled : T (doubles m p 1 ps)
-  pub exponent : T (every (exponentOf (2 ^ m - 1) ps) 0 es)
-  pub place : T (every (placeOf es) 0 ps)
+  pub once : T (every oneFirst 0 ps)
 
-module _ {m p : ℕ} {ps es : List ℕ} (t : Rules m p ps es) where
-  open Rules t using (degree, room, sized, covers, doubled, exponent, place)
+module _ {m p : ℕ} {ps : List ℕ} (t : Rules m p ps) where
+  open Rules t using (degree, room, sized, doubled, once)
 
   -- how many powers there are
   abbrev order : ℕ
   order = 2 ^ m - 1
 
-  abbrev log : ℕ → ℕ
-  log x = getD es x 0
+  -- ---- the powers of a are those of the element 2
+
+  power-raised : (k : ℕ) → power m p k ≡ raised m p 2 k
+  unfolding power raised
+  power-raised zero = refl
+  power-raised (suc k) = ap (product m p 2) (power-raised k)
 
   pub power-below : (k : ℕ) → power m p k < 2 ^ m
-  unfolding power
-  power-below zero = pow-lt {i = 0} {j = m} (omega arith)
-  power-below (suc k) = product-below m p degree 2 (power-below k)
+  power-below k = rw (power-raised k) (raised-below m p degree room 2 k)
 
-  pub power-mul : (i j : ℕ) → product m p (power m p i) (power m p j) ≡ power m p (i + j)
-  unfolding power
-  power-mul zero j = product-one m p (power m p j) (omega arith) (power-below j) ∙ ap (power m p) (sym (zero-add j))
-  power-mul (suc i) j =
-      product-assoc m p degree 2 (power m p i) (power m p j) (pow-lt {i = 1} {j = m} room) (power-below i) (power-below j)
-      ∙ ap (product m p 2) (power-mul i j) ∙ ap (power m p) (sym (suc-add i j))
+  power-mul : (i j : ℕ) → product m p (power m p i) (power m p j) ≡ power m p (i + j)
+  power-mul i j =
+      rw (power-raised i, power-raised j, power-raised (i + j)) (raised-add m p degree room 2 (pow-lt {i = 1} {j = m} room) i j)
 
-  pub power-order : power m p order ≡ 1
+  raised-power : (j k : ℕ) → raised m p (power m p j) k ≡ power m p (j * k)
+  unfolding raised power
+  raised-power j zero = ap (power m p) (sym (mul-zero j))
+  raised-power j (suc k) =
+      let more : j + j * k ≡ j * suc k = omega (arith, mul-suc j k) in
+      ap (product m p (power m p j)) (raised-power j k) ∙ power-mul j (j * k) ∙ ap (power m p) more
+
+  -- ---- the order of a
+
+  power-order : power m p order ≡ 1
   unfolding power
   power-order = ap (power m p) (sym sized ∙ sym (zero-add (length ps))) ∙ doubles-end m p ps 0 doubled
 
-  pub power-turns : (q k : ℕ) → power m p (q * order + k) ≡ power m p k
+  power-turns : (q k : ℕ) → power m p (q * order + k) ≡ power m p k
   power-turns zero k = ap (power m p) (ap (λ (z : ℕ). z + k) (zero-mul order) ∙ zero-add k)
   power-turns (suc q) k =
       ap (power m p) (omega (arith, suc-mul q order)) ∙ sym (power-mul order (q * order + k))
@@ -110,33 +117,58 @@ module _ {m p : ℕ} {ps es : List ℕ} (t : Rules m p ps es) where
   unfolding power
   powers-at k h = doubles-at m p ps 0 doubled k (omega (arith, sized)) ∙ ap (power m p) (zero-add k)
 
-  log-both : (x : ℕ) → 0 < x → x < 2 ^ m → (log x < order) × (getD ps (log x) 0 ≡ x)
-  log-both zero h l = absurd (not-suc-le-zero h)
-  log-both (suc x) h l = (ltb→lt (log (suc x)) order (and-left a b here), eqb→eq (getD ps (log (suc x)) 0) (suc x) (and-right a b here))
-    where
-      a : Bool
-      a = ltb (log (suc x)) order
+  -- ---- no power comes twice
 
-      b : Bool
-      b = eqb (getD ps (log (suc x)) 0) (suc x)
+  pub power-not-one : (k : ℕ) → 0 < k → k < order → power m p k ≢ 1
+  power-not-one zero h l e = not-suc-le-zero h
+  power-not-one (suc k) h l e =
+      let first : eqb (getD ps (suc k) 0) 1 ≡ false = not-true _ (passed _ (every-at oneFirst ps once (suc k) (omega (arith, sized)))) in
+      let one : eqb (getD ps (suc k) 0) 1 ≡ true = eq-eqb _ _ (powers-at (suc k) l ∙ e) in
+      let clash : _≡_ {A = ℕ} 0 1 = cc in
+      omega arith
 
-      here : T (a && b)
-      here = every-at (exponentOf order ps) es exponent (suc x) (omega (arith, covers))
+  -- what a power lacks of the order is the power that it becomes 1 with
+  power-rest : (k : ℕ) → k ≤ order → product m p (power m p k) (power m p (order - k)) ≡ 1
+  power-rest k l = power-mul k (order - k) ∙ ap (power m p) (omega arith) ∙ power-order
 
-  pub log-below : (x : ℕ) → x < 2 ^ m → log x < order
-  log-below zero l = ltb→lt (log 0) order (every-at (exponentOf order ps) es exponent 0 (omega (arith, covers)))
-  log-below (suc x) l = log-both (suc x) (omega arith) l .0
+  ahead : (i d : ℕ) → 0 < d → i + d < order → power m p i ≢ power m p (i + d)
+  ahead i d h l e =
+      power-not-one d h (omega arith)
+      (sym (power-turns 1 d) ∙ ap (power m p) (omega arith) ∙ sym (power-mul (order - i) (i + d)) ∙ ap (product m p (power m p (order - i))) (sym e)
+      ∙ power-mul (order - i) i ∙ ap (power m p) (omega arith) ∙ power-order)
 
-  pub power-log : (x : ℕ) → 0 < x → x < 2 ^ m → power m p (log x) ≡ x
-  power-log x h l = sym (powers-at (log x) (log-below x l)) ∙ log-both x h l .1
+  power-once : (i j : ℕ) → i < order → j < order → power m p i ≡ power m p j → i ≡ j
+  power-once i j a b e = elim (decLt i j) [
+    | yes l ↦ let there : j ≡ i + (j - i) = omega arith in absurd (ahead i (j - i) (omega arith) (omega arith) (e ∙ ap (power m p) there))
+    | no n ↦ elim (decLt j i) [
+      | yes l ↦ let there : i ≡ j + (i - j) = omega arith in absurd (ahead j (i - j) (omega arith) (omega arith) (sym e ∙ ap (power m p) there))
+      | no k ↦ omega arith
+    ]
+  ]
 
-  pub log-power : (k : ℕ) → k < order → log (power m p k) ≡ k
-  log-power k h = ap log (sym (powers-at k h)) ∙ eqb→eq (log (getD ps k 0)) k (every-at (placeOf es) ps place k (omega (arith, sized)))
+  -- ---- every element but 0 is a power: there are as many
 
-  pub power-once : (i j : ℕ) → i < order → j < order → power m p i ≡ power m p j → i ≡ j
-  power-once i j hi hj e = sym (log-power i hi) ∙ ap log e ∙ log-power j hj
+  power-some : (k : ℕ) → k < order → 0 < power m p k
+  power-some k l = elim (ℕ-discrete (power m p k) 0) [
+    | yes e ↦
+        let z : product m p 0 (power m p (order - k)) ≡ 1 = rw e at (power-rest k (omega arith)) in
+        absurd (omega (arith, product-zero-l m p (power m p (order - k))))
+    | no ne ↦ omega arith
+  ]
 
-  pub inverse-log : (x : ℕ) → 0 < x → x < 2 ^ m → product m p x (power m p (order - log x)) ≡ 1
-  inverse-log x h l =
-      ap (λ (z : ℕ). product m p z (power m p (order - log x))) (sym (power-log x h l)) ∙ power-mul (log x) (order - log x)
-      ∙ ap (power m p) (omega (arith, log-below x l)) ∙ power-order
+  is-power : (x : ℕ) → 0 < x → x < 2 ^ m → Reached (power m p) order x
+  is-power x h l =
+      let small : (k : ℕ) → k < order → power m p k - 1 < order = λ k u. omega (arith, power-some k u, power-below k) in
+      let apart : (i j : ℕ) → i < order → j < order → power m p i - 1 ≡ power m p j - 1 → i ≡ j =
+      λ i j u v e. power-once i j u v (omega (arith, power-some i u, power-some j v)) in
+      let (k, u, e) = onto (λ (k : ℕ). power m p k - 1) order small apart (x - 1) (omega arith) in
+      (k, u, omega (arith, power-some k u))
+
+  -- ---- so x by itself 2^m - 1 times is 1
+
+  pub raised-inverse : (x : ℕ) → 0 < x → x < 2 ^ m → product m p x (raised m p x (2 ^ m - 2)) ≡ 1
+  unfolding raised power
+  raised-inverse x h l =
+      let (j, u, e) = is-power x h l in
+      let whole : suc (2 ^ m - 2) ≡ order = omega (arith, pow-lt {i = 1} {j = m} room) in
+      ap (raised m p x) whole ∙ rw (← e) (raised-power j order ∙ ap (power m p) (sym (add-zero (j * order))) ∙ power-turns j 0)

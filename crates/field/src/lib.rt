@@ -82,5 +82,5 @@ pub fn inverse(m: usize, x: u8) -> Element
     if x == 0 {
         return Element::BadSymbol;
     }
-    Element::Is(tables::inverse_at(m, x))
+    Element::Is(shifts::inverse_at(m, x))
 }

@@ -43,7 +43,7 @@ pub fn say_words() {
         b"short marks refused 2",
         refuses_word(3, sent, 7, unmarked, 6, 2),
     );
-    // Catches a symbol that is no element, which the tables of m = 3 do not hold.
+    // Catches a symbol that is no element, which the field of 8 does not have.
     say(
         b"symbol 8 refused 3",
         refuses_word(3, large, 7, unmarked, 7, 3),

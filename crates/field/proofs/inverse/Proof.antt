@@ -1,5 +1,5 @@
--- `field::inverse` meets its contract: its tests are those of the definition, in the same order, and the number that the tables give is
--- the only one below 2^m whose product with x is 1.
+-- `field::inverse` meets its contract: its tests are those of the definition, in the same order, and the number that
+-- `inverse_at` gives is the only one below 2^m whose product with x is 1.
 -- Assumes nothing.
 use mathlib.Core.Path.{_∙_}
 use borrow.Author.Needs.{needs}

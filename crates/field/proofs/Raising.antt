@@ -1,0 +1,52 @@
+-- Powers of an element as the code makes them: each is the product of two before it, and the exponents add up.
+-- Assumes nothing.
+use mathlib.Core.Path.{_≡_, refl, sym, ap, ap₂, _∙_}
+use Prim.Native.Nat.{ℕ, _+_, _-_, _%_, _^_, _<_}
+use native.Mathlib.Nat.{mod-lt, mod-eq-of-lt}
+use native.Mathlib.Omega.{arith}
+use lib.Pow.{pow-pos}
+use Rattle.field.specs.Field.{modulus, mul}
+use Rattle.field.specs.Products.{product-comm, product-one}
+use Rattle.field.specs.Raised.{raised, raised-below, raised-add}
+use Rattle.field.specs.Powers.{raised-inverse}
+use Rattle.field.specs.Elements.{wide, known, one-below, prod}
+
+module _ (m x : ℕ) where
+  small : x % 2 ^ wide m < 2 ^ wide m
+  small = mod-lt x (pow-pos (wide m))
+
+  -- x^k, of x taken below 2^m
+  abbrev to : ℕ → ℕ
+  to = raised (wide m) (modulus (wide m)) (x % 2 ^ wide m)
+
+  to-below : (k : ℕ) → to k < 2 ^ wide m
+  to-below = raised-below (wide m) (modulus (wide m)) (known m .rules .degree) (known m .rules .room) _
+
+  -- y stands for x^k
+  pub record Raises (k y : ℕ) : Type 0 where
+    pub is : y % 2 ^ wide m ≡ to k
+
+  pub raises-one : Raises 1 x
+  unfolding raised
+  raises-one = record {
+    is =
+        sym (product-one (wide m) (modulus (wide m)) _ (omega (arith, known m .rules .room)) small)
+        ∙ product-comm (wide m) (modulus (wide m)) 1 _ (one-below (wide m) (known m)) small;
+  }
+
+  product-is : (i j y z r : ℕ) → Raises i y → Raises j z → r ≡ prod m y z → r ≡ to (i + j)
+  product-is i j y z r a b e = e ∙ ap₂ (mul (wide m)) (a .is) (b .is) ∙ raised-add (wide m) (modulus (wide m)) (known m .rules .degree) (known m .rules .room) _ small i j
+
+  pub raises-more : (i j y z r : ℕ) → Raises i y → Raises j z → r ≡ prod m y z → Raises (i + j) r
+  raises-more i j y z r a b e = record { is = rw (product-is i j y z r a b e) (mod-eq-of-lt (to-below (i + j))) }
+
+  pub raises-fourth : (k y : ℕ) → Raises k y → Raises (k + k + (k + k)) (prod m (prod m y y) (prod m y y))
+  raises-fourth k y a = let square = raises-more k k y y _ a a refl in raises-more (k + k) (k + k) _ _ _ square square refl
+
+  -- the power by 2^m - 2 is the inverse
+  pub raises-inverse : (i j y z r : ℕ) → i + j ≡ 2 ^ wide m - 2 → Raises i y → Raises j z → r ≡ prod m y z
+      → (r < 2 ^ wide m) × (0 < x % 2 ^ wide m → prod m x r ≡ 1)
+  raises-inverse i j y z r last a b e =
+      let whole : r ≡ to (2 ^ wide m - 2) = product-is i j y z r a b e ∙ ap to last in
+      let fits : r < 2 ^ wide m = rw whole (to-below (2 ^ wide m - 2)) in
+      (fits, λ h. ap (mul (wide m) (x % 2 ^ wide m)) (mod-eq-of-lt fits ∙ whole) ∙ raised-inverse (known m .rules) _ h small)
