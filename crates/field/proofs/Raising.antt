@@ -1,15 +1,13 @@
 -- Powers of an element as the code makes them: each is the product of two before it, and the exponents add up.
 -- Assumes nothing.
 use mathlib.Core.Path.{_≡_, refl, sym, ap, ap₂, _∙_}
-use Prim.Native.Nat.{ℕ, _+_, _-_, _%_, _^_, _<_}
+use Prim.Native.Nat.{ℕ, _+_, _-_, _*_, _%_, _^_, _<_}
 use native.Mathlib.Nat.{mod-lt, mod-eq-of-lt}
-use native.Mathlib.Omega.{arith}
 use lib.Pow.{pow-pos}
 use Rattle.field.specs.Field.{modulus, mul}
-use Rattle.field.specs.Products.{product-comm, product-one}
-use Rattle.field.specs.Raised.{raised, raised-below, raised-add}
+use Rattle.field.specs.Raised.{raised, raised-one, raised-below, raised-add, raised-mul}
 use Rattle.field.specs.Powers.{raised-inverse}
-use Rattle.field.specs.Elements.{wide, known, one-below, prod}
+use Rattle.field.specs.Elements.{wide, known, prod}
 
 module _ (m x : ℕ) where
   small : x % 2 ^ wide m < 2 ^ wide m
@@ -27,12 +25,7 @@ module _ (m x : ℕ) where
     pub is : y % 2 ^ wide m ≡ to k
 
   pub raises-one : Raises 1 x
-  unfolding raised
-  raises-one = record {
-    is =
-        sym (product-one (wide m) (modulus (wide m)) _ (omega (arith, known m .rules .room)) small)
-        ∙ product-comm (wide m) (modulus (wide m)) 1 _ (one-below (wide m) (known m)) small;
-  }
+  raises-one = record { is = sym (raised-one (wide m) (modulus (wide m)) (known m .rules .degree) (known m .rules .room) _ small) }
 
   product-is : (i j y z r : ℕ) → Raises i y → Raises j z → r ≡ prod m y z → r ≡ to (i + j)
   product-is i j y z r a b e = e ∙ ap₂ (mul (wide m)) (a .is) (b .is) ∙ raised-add (wide m) (modulus (wide m)) (known m .rules .degree) (known m .rules .room) _ small i j
@@ -40,8 +33,13 @@ module _ (m x : ℕ) where
   pub raises-more : (i j y z r : ℕ) → Raises i y → Raises j z → r ≡ prod m y z → Raises (i + j) r
   raises-more i j y z r a b e = record { is = rw (product-is i j y z r a b e) (mod-eq-of-lt (to-below (i + j))) }
 
-  pub raises-fourth : (k y : ℕ) → Raises k y → Raises (k + k + (k + k)) (prod m (prod m y y) (prod m y y))
-  raises-fourth k y a = let square = raises-more k k y y _ a a refl in raises-more (k + k) (k + k) _ _ _ square square refl
+  -- a power of a power, made in the field of the width w, which is m's
+  pub raises-power : (w j k y r : ℕ) → wide m ≡ w → Raises j y → r ≡ raised w (modulus w) y k → y < 2 ^ w → Raises (j * k) r
+  raises-power w j k y r same a e fits =
+      let own : r ≡ raised (wide m) (modulus (wide m)) (y % 2 ^ wide m) k = rw (same, mod-eq-of-lt fits) e in
+      let power : r ≡ to (j * k) =
+      own ∙ rw (a .is) (raised-mul (wide m) (modulus (wide m)) (known m .rules .degree) (known m .rules .room) _ small j k) in
+      record { is = rw power (mod-eq-of-lt (to-below (j * k))) }
 
   -- the power by 2^m - 2 is the inverse
   pub raises-inverse : (i j y z r : ℕ) → i + j ≡ 2 ^ wide m - 2 → Raises i y → Raises j z → r ≡ prod m y z

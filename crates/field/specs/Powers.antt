@@ -6,7 +6,7 @@ use mathlib.Core.Logic.{_≢_}
 use mathlib.Core.Bool.{Bool, true, false, _&&_, not}
 use mathlib.Core.List.{List, [], _∷_}
 use Prim.Native.Nat.{ℕ, zero, suc, _+_, _-_, _*_, _/_, _%_, _^_, _<_, _≤_}
-use native.Mathlib.Nat.{add-zero, add-suc, zero-add, suc-add, le-of-suc-le-suc, not-suc-le-zero, div-add-mod', suc-mul, zero-mul, mul-suc, mul-zero}
+use native.Mathlib.Nat.{add-zero, add-suc, zero-add, suc-add, le-of-suc-le-suc, not-suc-le-zero, div-add-mod', suc-mul, zero-mul}
 use native.Mathlib.Decide.{ℕ-discrete, decLt}
 use native.Mathlib.Omega.{arith}
 use borrow.Author.Tests.{not-true, eq-eqb}
@@ -17,7 +17,7 @@ use Rattle.algebra.specs.Sets.{Reached, onto}
 use Rattle.algebra.specs.Tests.{and-left, and-right, passed}
 use Rattle.field.specs.Field.{product, power}
 use Rattle.field.specs.Products.{product-zero-l, product-one}
-use Rattle.field.specs.Raised.{raised, raised-below, raised-add}
+use Rattle.field.specs.Raised.{raised, raised-below, raised-add, raised-mul}
 use Rattle.field.specs.Tables.{every, every-at}
 
 -- the rule of a table of powers: the first entry is x, each other is the product of 2 and the one before, and 2 times the last is 1
@@ -86,16 +86,14 @@ module _ {m p : ℕ} {ps : List ℕ} (t : Rules m p ps) where
   pub power-below : (k : ℕ) → power m p k < 2 ^ m
   power-below k = rw (power-raised k) (raised-below m p degree room 2 k)
 
+  two-below : 2 < 2 ^ m
+  two-below = pow-lt {i = 1} {j = m} room
+
   power-mul : (i j : ℕ) → product m p (power m p i) (power m p j) ≡ power m p (i + j)
-  power-mul i j =
-      rw (power-raised i, power-raised j, power-raised (i + j)) (raised-add m p degree room 2 (pow-lt {i = 1} {j = m} room) i j)
+  power-mul i j = rw (power-raised i, power-raised j, power-raised (i + j)) (raised-add m p degree room 2 two-below i j)
 
   raised-power : (j k : ℕ) → raised m p (power m p j) k ≡ power m p (j * k)
-  unfolding raised power
-  raised-power j zero = ap (power m p) (sym (mul-zero j))
-  raised-power j (suc k) =
-      let more : j + j * k ≡ j * suc k = omega (arith, mul-suc j k) in
-      ap (product m p (power m p j)) (raised-power j k) ∙ power-mul j (j * k) ∙ ap (power m p) more
+  raised-power j k = rw (power-raised j, power-raised (j * k)) (raised-mul m p degree room 2 two-below j k)
 
   -- ---- the order of a
 
@@ -170,5 +168,5 @@ module _ {m p : ℕ} {ps : List ℕ} (t : Rules m p ps) where
   unfolding raised power
   raised-inverse x h l =
       let (j, u, e) = is-power x h l in
-      let whole : suc (2 ^ m - 2) ≡ order = omega (arith, pow-lt {i = 1} {j = m} room) in
+      let whole : suc (2 ^ m - 2) ≡ order = omega (arith, two-below) in
       ap (raised m p x) whole ∙ rw (← e) (raised-power j order ∙ ap (power m p) (sym (add-zero (j * order))) ∙ power-turns j 0)

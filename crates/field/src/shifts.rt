@@ -2,6 +2,8 @@
 // varying factor goes first. The inverse is made of products alone.
 ghost use mathlib.Core.Path.{_≡_};
 ghost use Prim.Native.Nat.{_%_, _^_, _<_};
+ghost use Rattle.field.specs.Field.{modulus};
+ghost use Rattle.field.specs.Raised.{raised};
 ghost use Rattle.field.specs.Elements.{wide, prod};
 
 // The m low bits of x.
@@ -51,24 +53,31 @@ pub fn times(m: usize, x: u8, y: u8) -> u8
     by_terms(8, x, y)
 }
 
-// The product of x and the fourth power of y.
-fn by_fourth(m: usize, x: u8, y: u8) -> u8
-    ensures { λ r. ⌜ r ≡ prod m x (prod m (prod m y y) (prod m y y)) ⌝ }
+// The sixteenth power of x at m = 8: that of a sum is the sum of those of its terms, which are a^0, a^16, .., a^112.
+fn sixteenth(x: u8) -> u8
+    ensures { λ r. ⌜ r ≡ raised 8 (modulus 8) x 16 ⌝ }
 {
-    let square = times(m, y, y);
-    times(m, x, times(m, square, square))
+    x % 2
+        ^ x / 2 % 2 * 76
+        ^ x / 4 % 2 * 157
+        ^ x / 8 % 2 * 70
+        ^ x / 16 % 2 * 95
+        ^ x / 32 % 2 * 253
+        ^ x / 64 % 2 * 217
+        ^ x / 128 * 129
 }
 
-// The inverse of the element x, and 0 where x is 0: its power by 2^m - 2, since its power by 2^m - 1 is 1. The names give the exponents.
+// The inverse of the element x, and 0 where x is 0. It is the power by 2^m - 2, since that by 2^m - 1 is 1; each name has its exponent.
 pub fn inverse_at(m: usize, x: u8) -> u8
     ensures { λ r. ⌜ (r < 2 ^ wide m) × (0 < x % 2 ^ wide m → prod m x r ≡ 1) ⌝ }
 {
     let x2 = times(m, x, x);
+    let x4 = times(m, x2, x2);
+    let x6 = times(m, x2, x4);
     if m == 3 {
-        return times(m, x2, times(m, x2, x2));
+        return x6;
     }
-    let x3 = times(m, x, x2);
-    let x15 = by_fourth(m, x3, x3);
-    let x63 = by_fourth(m, x3, x15);
-    by_fourth(m, x2, x63)
+    let x14 = times(m, x6, times(m, x4, x4));
+    let x15 = times(m, x, x14);
+    times(m, x14, sixteenth(x15))
 }
