@@ -9,6 +9,7 @@ use Rattle.algebra.specs.Xor.{_⊕_}
 use Rattle.algebra.specs.Tests.{each, each-at}
 use Rattle.field.specs.Field.{times, reduce, product, modulus, mul}
 use Rattle.field.specs.Raised.{raised, raised-one, raised-add}
+use Rattle.field.specs.Powers.{Rules}
 use Rattle.field.specs.Gf8.{rules8}
 use Rattle.field.proofs.shifts.sixteenth.Statement.{statement}
 use Rattle.field.proofs.shifts.sixteenth.Tie as tie
@@ -27,16 +28,18 @@ unfolding each right code square _⊕_ times reduce product
 rule = tt
 
 module _ (x : ℕ) (byte : x < 256) where
+  open Rules rules8 using (degree, room)
+
   abbrev to : ℕ → ℕ
   to = raised 8 (modulus 8) x
 
   squared : (k : ℕ) → square (to k) ≡ to (k + k)
   unfolding square
-  squared k = raised-add 8 (modulus 8) (rules8 .degree) (rules8 .room) x byte k k
+  squared k = raised-add 8 (modulus 8) degree room x byte k k
 
   four-squares : square (square (square (square x))) ≡ to 16
   four-squares =
-      ap (λ (y : ℕ). square (square (square (square y)))) (sym (raised-one 8 (modulus 8) (rules8 .degree) (rules8 .room) x byte))
+      ap (λ (y : ℕ). square (square (square (square y)))) (sym (raised-one 8 (modulus 8) degree room x byte))
       ∙ ap (λ (y : ℕ). square (square (square y))) (squared 1) ∙ ap (λ (y : ℕ). square (square y)) (squared 2) ∙ ap square (squared 4) ∙ squared 8
 
 mul-result : tie.Need-mul-result
