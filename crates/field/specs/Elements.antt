@@ -20,7 +20,7 @@ use Rattle.algebra.specs.Numbers.{Field, lift}
 use Rattle.field.specs.Field.{power, modulus, mul, a^}
 use Rattle.field.specs.Products.{product-one, product-below, product-assoc, product-comm, product-right}
 use Rattle.field.specs.Raised.{raised, raised-below}
-use Rattle.field.specs.Powers.{Rules, power-below, power-not-one, raised-inverse}
+use Rattle.field.specs.Powers.{Rules, a-below, power-below, power-not-one, raised-inverse}
 use Rattle.field.specs.Gf3.{powers3, rules3}
 use Rattle.field.specs.Gf8.{powers8, rules8}
 
@@ -57,7 +57,7 @@ module _ (m : ℕ) (t : Known m) where
   one-below = pow-lt {i = 0} {j = m} (omega (arith, rules .room))
 
   pub two-below : 2 < 2 ^ m
-  two-below = pow-lt {i = 1} {j = m} (rules .room)
+  two-below = a-below rules
 
   -- the power of x that x becomes 1 with
   pub inverse : ℕ → ℕ

@@ -86,14 +86,14 @@ module _ {m p : ℕ} {ps : List ℕ} (t : Rules m p ps) where
   pub power-below : (k : ℕ) → power m p k < 2 ^ m
   power-below k = rw (power-raised k) (raised-below m p degree room 2 k)
 
-  two-below : 2 < 2 ^ m
-  two-below = pow-lt {i = 1} {j = m} room
+  pub a-below : 2 < 2 ^ m
+  a-below = pow-lt {i = 1} {j = m} room
 
   power-mul : (i j : ℕ) → product m p (power m p i) (power m p j) ≡ power m p (i + j)
-  power-mul i j = rw (power-raised i, power-raised j, power-raised (i + j)) (raised-add m p degree room 2 two-below i j)
+  power-mul i j = rw (power-raised i, power-raised j, power-raised (i + j)) (raised-add m p degree room 2 a-below i j)
 
   raised-power : (j k : ℕ) → raised m p (power m p j) k ≡ power m p (j * k)
-  raised-power j k = rw (power-raised j, power-raised (j * k)) (raised-mul m p degree room 2 two-below j k)
+  raised-power j k = rw (power-raised j, power-raised (j * k)) (raised-mul m p degree room 2 a-below j k)
 
   -- ---- the order of a
 
@@ -168,5 +168,5 @@ module _ {m p : ℕ} {ps : List ℕ} (t : Rules m p ps) where
   unfolding raised power
   raised-inverse x h l =
       let (j, u, e) = is-power x h l in
-      let whole : suc (2 ^ m - 2) ≡ order = omega (arith, two-below) in
+      let whole : suc (2 ^ m - 2) ≡ order = omega (arith, a-below) in
       ap (raised m p x) whole ∙ rw (← e) (raised-power j order ∙ ap (power m p) (sym (add-zero (j * order))) ∙ power-turns j 0)
