@@ -1,4 +1,4 @@
--- Powers of an element as the code makes them: each is the product of two before it, and the exponents add up.
+-- Powers of an element as the code makes them: with a product the exponents add up, and with a power of a power they multiply.
 -- Assumes nothing.
 use mathlib.Core.Path.{_≡_, sym, ap, ap₂, _∙_}
 use Prim.Native.Nat.{ℕ, _+_, _-_, _*_, _%_, _^_, _<_}

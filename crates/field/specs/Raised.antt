@@ -1,4 +1,4 @@
--- An element by itself, any number of times.
+-- An element by itself, any number of times. Algebra's `pow` is that of a ring, which the field becomes only with the inverse that is made here.
 -- Assumes nothing.
 use mathlib.Core.Path.{_≡_, sym, ap, _∙_}
 use Prim.Native.Nat.{ℕ, zero, suc, _+_, _*_, _/_, _^_, _<_}

@@ -1,5 +1,5 @@
 // The product without a table: a bit of one factor at a time. It has no branch but on m, so a loop over it becomes vector code; the
-// varying factor goes first. The inverse is made of products alone.
+// varying factor goes first. The inverse needs no table either: it is a power, made of products and, at m = 8, of one power that goes term by term.
 ghost use mathlib.Core.Path.{_≡_};
 ghost use Prim.Native.Nat.{_%_, _^_, _<_};
 ghost use Rattle.field.specs.Field.{modulus};
