@@ -1,9 +1,9 @@
 // Plain work on lent buffers, which the crates above share: to fill one, to copy or join, and to look at every byte.
 ghost use mathlib.Core.Path.{_≡_};
 ghost use mathlib.Core.List.{_++_};
-ghost use Prim.Native.Nat.{_+_, _<_, _≤_};
+ghost use Prim.Native.Nat.{_+_, _≤_};
 ghost use lib.ListN.{length, take, replicate};
-ghost use Rattle.algebra.specs.Tests.{at, below};
+ghost use Rattle.algebra.specs.Tests.{below};
 
 // A byte as a count.
 fn widen(x: u8) -> usize
@@ -12,11 +12,15 @@ fn widen(x: u8) -> usize
     x as usize
 }
 
-// Whether every symbol is below q. The largest is taken, with no early way out, so that the loop can run on many bytes at once.
+// Whether every symbol is below q. The largest is taken, with no early way out, so that the loop can run on many bytes at once. Where q is
+// above every byte there is nothing to look at.
 pub fn all_below(s: &[u8], q: usize) -> bool
     ensures { λ r. ⌜ r ≡ below q (now (s .entry)) ⌝ }
 {
     if s.len() == 0 {
+        return true;
+    }
+    if 255 < q {
         return true;
     }
     let mut most: u8 = 0;
@@ -56,28 +60,14 @@ pub fn copy(source: &[u8], target: &mut [u8])
     }
 }
 
-// Entry i of two lists that stand one behind the other.
-fn entry(first: &[u8], second: &[u8], i: usize) -> u8
-    requires { ⌜ i < length (now first) + length (now second) ⌝ }
-    ensures { λ r. ⌜ r ≡ at (now (first .entry) ++ now (second .entry)) i ⌝ }
-{
-    let k = first.len();
-    if i < k {
-        return first[i];
-    }
-    second[i - k]
-}
-
-// Fills the target with the front of two lists that stand one behind the other.
+// Fills the target with the front of two lists that stand one behind the other; the first is not longer than the target.
 pub fn join(first: &[u8], second: &[u8], target: &mut [u8])
-    requires { ⌜ length (now target) ≤ length (now first) + length (now second) ⌝ }
+    requires { ⌜ (length (now first) ≤ length (now target)) × (length (now target) ≤ length (now first) + length (now second)) ⌝ }
     ensures { λ _. ⌜ now (target .exit) ≡ take (length (now (target .entry))) (now (first .entry) ++ now (second .entry)) ⌝ }
 {
-    let mut i = 0;
-    while i < target.len() {
-        target[i] = entry(first, second, i);
-        i += 1;
-    }
+    let k = first.len();
+    copy(first, &mut target[0..k]);
+    copy(second, &mut target[k..]);
 }
 
 // Work space for one word, filled with zeros. A call of its own keeps the array out of its callers' proofs.

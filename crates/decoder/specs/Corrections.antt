@@ -66,7 +66,7 @@ module _ (m n b : ℕ) (flags sums before after : List ℕ) where
     pub size : length after ≡ n
     pub kept : (i : ℕ) → i < n → ¬ (0 < at flags i) → at after i ≡ at before i
     pub fixed : (i : ℕ) → i < n → 0 < at flags i → Fixed i
-    pub rest : Rep (K m) (spots m n b) 16 (λ j. at sums j) (coef (K m) before) → Rep (K m) (spots m n b) 16 (λ j. at left j) (coef (K m) after)
+    pub rest : (r : ℕ) → r ≤ 16 → Rep (K m) (spots m n b) r (λ j. at sums j) (coef (K m) before) → Rep (K m) (spots m n b) r (λ j. at left j) (coef (K m) after)
 
 -- ---- over any ring
 
@@ -160,7 +160,7 @@ pub record Correcting (m n b : ℕ) (flags sums before : List ℕ) (i : ℕ) (af
   pub todo : (k : ℕ) → i ≤ k → at after k ≡ at before k
   pub kept : (k : ℕ) → k < i → ¬ (0 < at flags k) → at after k ≡ at before k
   pub fixed : (k : ℕ) → k < i → 0 < at flags k → Fixed m n b flags sums before after k
-  pub rest : Rep (K m) (spots m n b) 16 (λ j. at sums j) (coef (K m) before) → Rep (K m) (spots m n b) 16 (λ j. at left j) (coef (K m) after)
+  pub rest : (r : ℕ) → r ≤ 16 → Rep (K m) (spots m n b) r (λ j. at sums j) (coef (K m) before) → Rep (K m) (spots m n b) r (λ j. at left j) (coef (K m) after)
 
 -- a word of n with e added to its place i
 module _ (n : ℕ) (word : List ℕ) (i e : ℕ) (size : length word ≡ n) (l : i < n) where
@@ -176,16 +176,16 @@ module _ (n : ℕ) (word : List ℕ) (i e : ℕ) (size : length word ≡ n) (l :
   added-here : at added i ≡ bitXor (at word i) e
   added-here = getD-set-same word i (bitXor (at word i) e) 0 (omega arith)
 
-  added-sums : (m b : ℕ) (L M : ℕ → ℕ) → ((j : ℕ) → j < 16 → M j ≡ bitXor (L j) (prod m e (pw (K m) (spots m n b) j (n - suc i))))
-      → Rep (K m) (spots m n b) 16 L (coef (K m) word) → Rep (K m) (spots m n b) 16 M (coef (K m) added)
-  added-sums m b L M h =
+  added-sums : (m b r : ℕ) (L M : ℕ → ℕ) → ((j : ℕ) → j < r → M j ≡ bitXor (L j) (prod m e (pw (K m) (spots m n b) j (n - suc i))))
+      → Rep (K m) (spots m n b) r L (coef (K m) word) → Rep (K m) (spots m n b) r M (coef (K m) added)
+  added-sums m b r L M h =
       let u : n - suc (n - suc i) ≡ i = omega arith in
-      Rep-change (K m) (spots m n b) 16 (n - suc i) e L M (coef (K m) word) (coef (K m) added) (omega arith) (rw (added-size, size, u) added-here)
+      Rep-change (K m) (spots m n b) r (n - suc i) e L M (coef (K m) word) (coef (K m) added) (omega arith) (rw (added-size, size, u) added-here)
       (λ k a ne. rw (added-size, size) (added-other (n - suc k) (omega arith))) h
 
 module _ {m n b : ℕ} {flags sums before : List ℕ} where
   pub correcting-start : length before ≡ n → Correcting m n b flags sums before 0 before sums
-  correcting-start e = record { size = e; todo = λ k h. refl; kept = λ k h. absurd (omega arith); fixed = λ k h. absurd (omega arith); rest = λ r. r }
+  correcting-start e = record { size = e; todo = λ k h. refl; kept = λ k h. absurd (omega arith); fixed = λ k h. absurd (omega arith); rest = λ r h z. z }
 
   module _ {i : ℕ} {after left : List ℕ} (l : i < n) (o : Correcting m n b flags sums before i after left) where
     pub correcting-pass : ¬ (0 < at flags i) → Correcting m n b flags sums before (i + 1) after left
@@ -207,8 +207,8 @@ module _ {m n b : ℕ} {flags sums before : List ℕ} where
         | yes q ↦ rw q (record { error = e; right = er; changed = added-here n after i e (o .size) l ∙ rw (o .todo i (omega arith)) })
         | no ne ↦ let d = o .fixed k (omega arith) g in record { error = d .error; right = d .right; changed = added-other n after i e (o .size) l k ne ∙ d .changed }
       ];
-      rest = λ r. added-sums n after i e (o .size) l m b (λ j. at left j) (λ j. at next j)
-          (λ j h. taken j h ∙ rw (course-pw m n b (n - suc i) e x y ex (rw (ew m (n - suc i) ex) at ey) j)) (o .rest r);
+      rest = λ r few z. added-sums n after i e (o .size) l m b r (λ j. at left j) (λ j. at next j)
+          (λ j h. taken j (omega arith) ∙ rw (course-pw m n b (n - suc i) e x y ex (rw (ew m (n - suc i) ex) at ey) j)) (o .rest r few z);
     }
 
   pub correcting-end : {i : ℕ} {after left : List ℕ} → n ≤ i → Correcting m n b flags sums before i after left → Corrected m n b flags sums before after left

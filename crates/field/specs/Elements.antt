@@ -16,7 +16,7 @@ use Rattle.algebra.specs.Xor.{_⊕_, same-below}
 use Rattle.algebra.specs.Tests.{if_then_else_}
 use Rattle.algebra.specs.Ring.{Ring}
 use Rattle.algebra.specs.Horner.{pow}
-use Rattle.algebra.specs.Numbers.{Field, lift}
+use Rattle.algebra.specs.Numbers.{Field, lift, rest-below}
 use Rattle.field.specs.Field.{power, modulus, mul, a^}
 use Rattle.field.specs.Products.{product-one, product-below, product-assoc, product-comm, product-right}
 use Rattle.field.specs.Raised.{raised, raised-below}
@@ -107,6 +107,13 @@ prod m x y = mul (wide m) (x % 2 ^ wide m) (y % 2 ^ wide m)
 module _ (m : ℕ) where
   pub prod-small : (x y : ℕ) → x < 2 ^ wide m → y < 2 ^ wide m → prod m x y ≡ mul (wide m) x y
   prod-small x y a b = ap₂ (mul (wide m)) (mod-eq-of-lt a) (mod-eq-of-lt b)
+
+  -- a product is an element, and 1 is the one of all elements
+  pub prod-below : (x y : ℕ) → prod m x y < 2 ^ wide m
+  prod-below x y = let f = numbers (wide m) (known m) in f .mul-lt _ _ (rest-below (wide m) f x) (rest-below (wide m) f y)
+
+  pub prod-one : (x : ℕ) → x < 2 ^ wide m → prod m x 1 ≡ x
+  prod-one x h = prod-small x 1 h (one-below (wide m) (known m)) ∙ numbers (wide m) (known m) .mul-one x h
 
   -- the theory's powers of 2 are those of a
   pub pow-power : (k : ℕ) → pow (K m) 2 k ≡ a^ (wide m) k

@@ -6,6 +6,7 @@ pub mod Powers
 pub mod Gf3
 pub mod Gf8
 pub mod Elements
+pub mod Doubles
 pub mod Lanes
 pub mod Answers
 pub mod Once

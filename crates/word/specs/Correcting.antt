@@ -1,7 +1,7 @@
 -- How a word is corrected: what the steps have made, what they promise together, and the laws for each way out.
 -- Assumes nothing.
 use mathlib.Core.Path.{_≡_, refl, sym, ap, _∙_, subst}
-use mathlib.Core.Bool.{true, false}
+use mathlib.Core.Bool.{Bool, true, false}
 use mathlib.Core.Logic.{_≢_}
 use mathlib.Core.List.{List, _++_}
 use mathlib.Core.Option.{some, none}
@@ -10,21 +10,27 @@ use native.Mathlib.Omega.{arith}
 use lib.Dec.{T}
 use lib.ListN.{length, take}
 use lib.Seq.{take-length, take-take, take-append-seam}
-use Rattle.algebra.specs.Tests.{at, total}
+use Rattle.algebra.specs.Tests.{at, total, below, below-at}
+use Rattle.algebra.specs.Peel.{Rep}
+use Rattle.algebra.specs.Horner.{coef}
+use Rattle.field.specs.Elements.{K}
+use Rattle.checks.specs.Roots.{spots}
+use Rattle.checks.specs.Left.{LeftOver, left-none, left-sums}
 use Rattle.word.specs.Word.{errors, marked, bits}
 use Rattle.word.specs.Codeword.{qualifies, Codeword, in-reach, is-in-reach}
 use Rattle.word.specs.Distance.{errors-self, bits-self}
 use Rattle.word.specs.Code.{corrected}
 use Rattle.word.specs.Code.Laws.{corrected-only, corrected-none}
-use Rattle.word.specs.Answers.{numberOf, decodeOutcome, figures, answering}
+use Rattle.word.specs.Answers.{numberOf, figures}
 use Rattle.word.specs.Refusals.{Checked}
-use Rattle.word.specs.Met.{Refuses, answering-refused, answering-found, answering-none}
+use Rattle.word.specs.Setting.{limits}
+use Rattle.word.specs.Completion.{codeword-from}
 use Rattle.checks.specs.Syndromes.{Syndromes, allZero, allZero-at, allZero-yes}
 use Rattle.decoder.specs.Peeling.{PeeledAll}
 use Rattle.decoder.specs.Elimination.{KernelVector}
 use Rattle.decoder.specs.Candidates.{Candidates}
 use Rattle.decoder.specs.Corrections.{Corrected}
-use Rattle.word.specs.Solution.{clean, solved, left-zero, made-codeword}
+use Rattle.word.specs.Solution.{solved, left-zero, made-codeword}
 use Rattle.word.specs.declared.Setting.{Setting}
 use Rattle.word.specs.declared.Figures.{Figures}
 use Rattle.word.specs.declared.Decoded.{Decoded}
@@ -46,12 +52,23 @@ pub record FoundWith (e f b : ℕ) (r : Correction) : Type 0 where
   pub found : r .found ≡ true
   pub figures : r .figures ≡ record { errors = e; marked = f; bits = b }
 
--- what is known of a received word once its marks are counted and its syndromes taken
-pub record Measured (s : Setting) (marks received : List ℕ) (f : ℕ) (sums : List ℕ) : Type 0 where
+-- the figures of a received codeword with f marks
+pub record CleanFigures (f : ℕ) (r : Figures) : Type 0 where
+  pub figures : r ≡ record { errors = 0; marked = f; bits = 0 }
+
+-- what is known of a received word once its marks are counted, and it is known what it leaves of its message's check symbols
+pub record Measured (s : Setting) (marks received : List ℕ) (f : ℕ) (rest : List ℕ) : Type 0 where
   pub checked : Checked s marks received
   pub counted : f ≡ marked marks received
   pub few : f ≤ s .r
-  pub syndromes : Syndromes (s .m) (s .b) received sums
+  pub left : LeftOver (s .m) (s .b) (s .r) received (take (s .r) rest)
+
+-- and once its power sums are
+pub record Summed (s : Setting) (marks received : List ℕ) (f : ℕ) (sums : List ℕ) : Type 0 where
+  pub checked : Checked s marks received
+  pub counted : f ≡ marked marks received
+  pub few : f ≤ s .r
+  pub measured : Rep (K (s .m)) (spots (s .m) (s .n) (s .b)) (s .r) (λ j. at sums j) (coef (K (s .m)) received)
 
 -- a codeword was found, it is in out, and the figures are its own; or there is none
 pub record Corrects (s : Setting) (marks received out : List ℕ) (r : Correction) : Type 0 where
@@ -75,16 +92,11 @@ module _ (s : Setting) (marks received : List ℕ) (ch : Checked s marks receive
   marks-counted f e = e ∙ ap (λ (k : ℕ). total k (at marks)) (ch .marks-size ∙ sym (ch .size))
 
   -- more marks than check symbols
-  pub overmarked : (out : List ℕ) (r : Correction) (f : ℕ) → length out ≡ s .n → f ≡ marked marks received → s .r < f → r .found ≡ false → Corrects s marks received out r
-  overmarked out r f n e l g = corrects-none out r n g λ c q. omega (arith, in-reach s marks received c q .bound)
+  pub overmarked : (f : ℕ) → f ≡ marked marks received → s .r < f → corrected s marks received ≡ none
+  overmarked f e l = corrected-none s marks received λ c q. omega (arith, in-reach s marks received c q .bound)
 
-  module _ (f : ℕ) (ef : f ≡ marked marks received) (few : f ≤ s .r) (S : List ℕ) (syn : Syndromes (s .m) (s .b) received S) where
-    -- a received codeword
-    pub found-clean : (r : Correction) → allZero (s .m) (s .r) S ≡ true → FoundWith 0 f 0 r → Corrects s marks received received r
-    found-clean r z g =
-        corrects-found received r (ch .size) (g .found) (g .figures ∙ rw (errors-self marks received, bits-self received, ← ef))
-        (is-in-reach s marks received received (record { code = clean s marks received ch S syn (allZero-at _ _ S z); bound = omega (arith, errors-self marks received) }))
-
+  module _ (f : ℕ) (ef : f ≡ marked marks received) (few : f ≤ s .r) (S : List ℕ)
+      (sums : Rep (K (s .m)) (spots (s .m) (s .n) (s .b)) (s .r) (λ j. at S j) (coef (K (s .m)) received)) where
     module _ (out rest : List ℕ) (rep : Steps s marks f S received out rest) where
       abbrev t : ℕ
       t = (s .r - f) / 2
@@ -98,13 +110,13 @@ module _ (s : Setting) (marks received : List ℕ) (ch : Checked s marks receive
       -- whatever qualifies is the word that was made
       made : (c : List ℕ) → T (qualifies s marks received c) → out ≡ c
       made c q =
-          solved s marks received ch t lo hi S (rep .peeled) (rep .vector) (rep .flags) out rest syn (rep .is-peeled) (rep .is-kernel) (rep .are-candidates) (rep .are-corrected) c (in-reach s marks received c q)
+          solved s marks received ch t lo hi S (rep .peeled) (rep .vector) (rep .flags) out rest sums (rep .is-peeled) (rep .is-kernel) (rep .are-candidates) (rep .are-corrected) c (in-reach s marks received c q)
 
       -- what is left does not vanish
       pub lost-left : (r : Correction) → allZero (s .m) (s .r) rest ≡ false → r .found ≡ false → Corrects s marks received out r
       lost-left r z g = corrects-none out r (rep .are-corrected .size) g λ c q.
           different (sym (allZero-yes (s .m) (s .r) rest
-          (left-zero s marks received ch t lo hi S (rep .peeled) (rep .vector) (rep .flags) out rest syn (rep .is-peeled) (rep .is-kernel) (rep .are-candidates) (rep .are-corrected)
+          (left-zero s marks received ch t lo hi S (rep .peeled) (rep .vector) (rep .flags) out rest sums (rep .is-peeled) (rep .is-kernel) (rep .are-candidates) (rep .are-corrected)
           (subst (Codeword s) (sym (made c q)) (in-reach s marks received c q .code)))) ∙ z)
 
       -- too many wrong symbols
@@ -118,7 +130,7 @@ module _ (s : Setting) (marks received : List ℕ) (ch : Checked s marks receive
       found-corrected r e ee l z b eb g =
           corrects-found out r (rep .are-corrected .size) (g .found) (g .figures ∙ rw (ee, ef, eb))
           (is-in-reach s marks received out (record {
-            code = made-codeword s marks received ch t lo hi S (rep .peeled) (rep .vector) (rep .flags) out rest syn (rep .is-peeled) (rep .is-kernel) (rep .are-candidates) (rep .are-corrected) (allZero-at _ _ rest z);
+            code = made-codeword s marks received ch t lo hi S (rep .peeled) (rep .vector) (rep .flags) out rest sums (rep .is-peeled) (rep .is-kernel) (rep .are-candidates) (rep .are-corrected) (allZero-at _ _ rest z);
             bound = omega arith;
           }))
 
@@ -136,39 +148,53 @@ copied out received copy n e f h = h ∙ ap (λ (k : ℕ). take k received) (e �
 pub message-front : (n r : ℕ) (xs : List ℕ) → take (n - r) (take n xs) ≡ take (n - r) xs
 message-front n r xs = take-take (n - r) n xs (omega arith)
 
--- ---- the answer
+-- ---- a received codeword
 
--- what a received word is answered, whose checks gave this number; an accepted word's correction is at the front of the work space, and goes
--- where `decode` or `decode_part` places it
-pub record Answered (s : Setting) (number : ℕ) (received marks work : List ℕ) (d : Decoded) : Type 0 where
+-- a front of r entries, as the code takes it
+pub front-of : (r : ℕ) (w : List ℕ) → take (r - 0) w ≡ take r w
+front-of r w = let e : r - 0 ≡ r = omega arith in ap (λ (k : ℕ). take k w) e
+
+-- the test of what is left over
+pub nothing-left : (rest : List ℕ) (t : Bool) → t ≡ below 1 rest → t ≡ true → T (below 1 rest)
+nothing-left rest t e h = rw (← e, h) tt
+
+-- where nothing is left over, the received word is the one that qualifies, and its figures are those of a codeword
+module _ (s : Setting) (marks received rest : List ℕ) (f : ℕ) (h : Measured s marks received f rest) (none-left : T (below 1 (take (s .r) rest))) where
+  abbrev k : Checked s marks received
+  k = h .checked
+
+  is-clean : Codeword s received
+  is-clean = codeword-from s (limits s (k .setting)) received (k .size) (k .small)
+      (left-none (s .m) (s .b) (s .r) received (take (s .r) rest) (h .left) λ i. omega (arith, below-at 1 (take (s .r) rest) none-left i (omega arith)))
+
+  pub clean-corrected : corrected s marks received ≡ some received
+  clean-corrected = corrected-only s (k .setting) marks received (k .size) received
+      (is-in-reach s marks received received (record { code = is-clean; bound = omega (arith, errors-self marks received, h .few, h .counted) }))
+
+  pub clean-figures : (r : Figures) → CleanFigures f r → r ≡ figures marks received received
+  clean-figures r g = g .figures ∙ rw (errors-self marks received, bits-self received, ← h .counted)
+
+-- a damaged word with its power sums
+pub summed : (s : Setting) (marks received rest : List ℕ) (f : ℕ) (sums : List ℕ) → Measured s marks received f rest → Syndromes (s .m) (s .b) (take (s .r) rest) sums
+    → Summed s marks received f sums
+summed s marks received rest f sums h e = record {
+  checked = h .checked;
+  counted = h .counted;
+  few = h .few;
+  measured = left-sums (s .m) (s .b) (s .r) received (take (s .r) rest) (h .left) (s .n) sums (limits s (h .checked .setting) .high) (h .checked .size) e;
+}
+
+-- ---- the answer of a damaged word
+
+-- an accepted word's correction is at the front of the work space, and goes where `decode` or `decode_part` places it
+pub record Answered (s : Setting) (received marks work : List ℕ) (d : Decoded) : Type 0 where
   pub size : length work ≡ 255
-  pub refused : numberOf d ≢ 0 → (place : List ℕ → List ℕ) (lent : List ℕ) → decodeOutcome d lent ≡ answering s received marks number place lent
-  pub checked : numberOf d ≡ 0 → 0 ≡ number
-  pub done : numberOf d ≡ 0 → (place : List ℕ → List ℕ) (lent : List ℕ) → decodeOutcome d (place (take (s .n) work)) ≡ answering s received marks number place lent
+  pub refused : numberOf d ≢ 0 → (d ≡ BeyondReach) × (corrected s marks received ≡ none)
+  pub done : numberOf d ≡ 0 → (d ≡ Done (figures marks received (take (s .n) work))) × (corrected s marks received ≡ some (take (s .n) work))
 
-module _ (s : Setting) (number : ℕ) (received marks work : List ℕ) (n : length work ≡ 255) where
-  pub answered-refused : (d : Decoded) → 0 < number → Refuses number d → Answered s number received marks work d
-  answered-refused d h r = record {
-    size = n;
-    refused = λ _ place lent. answering-refused s received marks place lent number number d refl h r;
-    checked = λ z. absurd (omega (arith, r .number));
-    done = λ z place lent. absurd (omega (arith, r .number));
-  }
+module _ (s : Setting) (received marks work : List ℕ) (n : length work ≡ 255) where
+  pub answered-none : corrected s marks received ≡ none → Answered s received marks work BeyondReach
+  answered-none g = record { size = n; refused = λ _. (refl, g); done = λ e. absurd (omega arith) }
 
-  module _ (z : 0 ≡ number) where
-    pub answered-none : corrected s marks received ≡ none → Answered s number received marks work BeyondReach
-    answered-none g = record {
-      size = n;
-      refused = λ _ place lent. answering-none s received marks place lent number z g;
-      checked = λ e. absurd (omega arith);
-      done = λ e place lent. absurd (omega arith);
-    }
-
-    pub answered-found : (f : Figures) → corrected s marks received ≡ some (take (s .n) work) → f ≡ figures marks received (take (s .n) work)
-        → Answered s number received marks work (Done f)
-    answered-found f g h = record {
-      size = n;
-      refused = λ ne. absurd (ne refl);
-      checked = λ _. z;
-      done = λ _ place lent. answering-found s received marks place lent number z (take (s .n) work) f g h;
-    }
+  pub answered-found : (f : Figures) → corrected s marks received ≡ some (take (s .n) work) → f ≡ figures marks received (take (s .n) work) → Answered s received marks work (Done f)
+  answered-found f g h = record { size = n; refused = λ ne. absurd (ne refl); done = λ _. (ap Done h, g) }

@@ -5,7 +5,7 @@ use mathlib.Core.Path.{_≡_, refl, sym, _∙_}
 use mathlib.Core.Logic.{_⊎_, _≢_}
 use mathlib.Core.List.{List}
 use Prim.Native.Nat.{ℕ, zero, suc, _+_, _-_, _*_, _%_, _^_, _≤_, _<_}
-use native.Mathlib.Nat.{mod-eq-of-lt, le-refl}
+use native.Mathlib.Nat.{mod-eq-of-lt}
 use native.Mathlib.Decide.{decLt}
 use native.Mathlib.Omega.{arith}
 use lib.ListN.{length}
@@ -30,7 +30,6 @@ use Rattle.word.specs.Codeword.{Codeword, InReach}
 use Rattle.word.specs.Distance.{own-field, spots-apart, codeword-sums, marks-few, errors-few}
 use Rattle.word.specs.Completion.{codeword-from}
 use Rattle.word.specs.Refusals.{Checked}
-use Rattle.checks.specs.Syndromes.{Syndromes, syndromes-sums}
 use Rattle.decoder.specs.Peeling.{PeeledAll}
 use Rattle.decoder.specs.Elimination.{KernelVector}
 use Rattle.decoder.specs.Candidates.{Candidates}
@@ -87,15 +86,8 @@ module _ (s : Setting) (marks received : List ℕ) (ch : Checked s marks receive
       rw (ch .size) (total-count (flagged marks (s .n)) (s .n) (λ i. at marks i) (λ i l. omega (arith, below-at 2 marks (ch .marks-small) i (omega arith))) λ i l p. rw (back i l) p) in
       omega arith
 
-  -- ---- syndromes that vanish
-
-  -- a received word whose syndromes vanish is a codeword
-  pub clean : (S : List ℕ) → Syndromes (s .m) (s .b) received S → ((j : ℕ) → j < s .r → at S j % 2 ^ wide (s .m) ≡ 0) → Codeword s received
-  unfolding Syndromes
-  clean S h z = codeword-from s ok received (ch .size) (ch .small) λ j l. rw (← h j (omega (arith, ok .high))) (z j l)
-
   module _ (t : ℕ) (lo : marked marks received + 2 * t ≤ s .r) (hi : s .r ≤ suc (marked marks received + 2 * t)) (S P v C out rest : List ℕ)
-      (syn : Syndromes (s .m) (s .b) received S) (peeled : PeeledAll (s .m) (s .n) marks (s .n) S P) (kern : KernelVector (s .m) t P v)
+      (sums : Rep (K (s .m)) (spots (s .m) (s .n) (s .b)) (s .r) (λ j. at S j) (coef (K (s .m)) received)) (peeled : PeeledAll (s .m) (s .n) marks (s .n) S P) (kern : KernelVector (s .m) t P v)
       (cands : Candidates (s .m) (s .n) marks v (suc t) C) (fix : Corrected (s .m) (s .n) (s .b) C S received out rest) where
     abbrev m : ℕ
     m = s .m
@@ -121,9 +113,6 @@ module _ (s : Setting) (marks received : List ℕ) (ch : Checked s marks receive
 
     others-spare : (k : ℕ) → k < n → (i : ℕ) → i < n → Cand i × (i ≢ k) → (0 < at C (n - suc i)) × (n - suc i ≢ n - suc k)
     others-spare k l i h p = (complete i h (p .0), λ e. p .1 (omega arith))
-
-    sums : Rep (K m) ℒ 16 (λ j. at S j) (coef (K m) received)
-    sums = syndromes-sums m n (s .b) 16 received S (le-refl 16) (ch .size) syn
 
     few : (k : ℕ) → k < n → Cand k → count (spare C (n - suc k) n) n < 16
     few k l p = omega (
@@ -162,7 +151,7 @@ module _ (s : Setting) (marks received : List ℕ) (ch : Checked s marks receive
     run = record {
       lo = omega (arith, lo, marks-exact);
       hi = omega (arith, hi, marks-exact);
-      syndromes = λ j l. sums j (omega (arith, ok .high));
+      syndromes = sums;
       peeled = λ j l. peeled j (omega (arith, ok .high, count-mono (spare marks n n) (flagged marks n) n (λ k a b. b .0)))
           ∙ peels-same (K m) (λ k. locator m k) (spare marks n n) (flagged marks n) n (λ j. at S j) j (λ k a b. b .0) (λ k a b. (b, λ e. omega arith));
       kern = kern .fine;
@@ -189,11 +178,11 @@ module _ (s : Setting) (marks received : List ℕ) (ch : Checked s marks receive
 
     -- ---- the power sums that are left
 
-    left : Rep (K m) ℒ 16 (λ j. at rest j) (coef (K m) out)
-    left = fix .rest sums
+    left : Rep (K m) ℒ (s .r) (λ j. at rest j) (coef (K m) out)
+    left = fix .rest (s .r) (ok .high) sums
 
-    values : Rep (K m) ℒ 16 (λ j. horner (K m) (pow (K m) 2 (s .b + j)) 0 out) (coef (K m) out)
-    values = syndromes (K m) 2 n (s .b) 16 out (fix .size)
+    values : Rep (K m) ℒ (s .r) (λ j. horner (K m) (pow (K m) 2 (s .b + j)) 0 out) (coef (K m) out)
+    values = syndromes (K m) 2 n (s .b) (s .r) out (fix .size)
 
     out-below : T (below (2 ^ m) out)
     out-below = below-all (2 ^ m) out λ i l. rw (own-field s ok) at (out-small i (omega (arith, fix .size)))
@@ -201,9 +190,9 @@ module _ (s : Setting) (marks received : List ℕ) (ch : Checked s marks receive
     -- they vanish where the word made is a codeword, and only there
     pub left-zero : Codeword s out → (j : ℕ) → j < s .r → at rest j % 2 ^ wide m ≡ 0
     left-zero c j l =
-        Z-other (K m) 0 (at rest j) (Rep-both (K m) ℒ (s .r) (λ i. 0) (λ i. at rest i) (coef (K m) out) (codeword-sums s ok out c) (λ i a. left i (omega (arith, ok .high))) j l) (mod-eq-of-lt (pow-pos (wide m)))
+        Z-other (K m) 0 (at rest j) (Rep-both (K m) ℒ (s .r) (λ i. 0) (λ i. at rest i) (coef (K m) out) (codeword-sums s ok out c) left j l) (mod-eq-of-lt (pow-pos (wide m)))
 
     pub made-codeword : ((j : ℕ) → j < s .r → at rest j % 2 ^ wide m ≡ 0) → Codeword s out
     made-codeword z = codeword-from s ok out (fix .size) out-below λ j l.
         Z-other (K m) (at rest j) (horner (K m) (pow (K m) 2 (s .b + j)) 0 out)
-        (Rep-both (K m) ℒ 16 (λ i. at rest i) (λ i. horner (K m) (pow (K m) 2 (s .b + i)) 0 out) (coef (K m) out) left values j (omega (arith, ok .high))) (z j l)
+        (Rep-both (K m) ℒ (s .r) (λ i. at rest i) (λ i. horner (K m) (pow (K m) 2 (s .b + i)) 0 out) (coef (K m) out) left values j l) (z j l)

@@ -2,16 +2,17 @@
 ghost use mathlib.Core.Path.{_≡_};
 ghost use mathlib.Core.Bool.{false};
 ghost use Prim.Native.Nat.{_*_, _≤_};
-ghost use lib.ListN.{length};
-ghost use Rattle.word.specs.Refusals.{Checked};
-ghost use Rattle.word.specs.Correcting.{Steps, FoundWith, Measured, Corrects};
+ghost use lib.ListN.{length, take};
+ghost use Rattle.checks.specs.Left.{LeftOver};
+ghost use Rattle.word.specs.Correcting.{Steps, FoundWith, CleanFigures, Measured, Summed, Corrects};
 use crate::Figures;
 use crate::Setting;
 use crate::count::count_bits;
 use crate::count::count_errors;
-use crate::count::count_marks;
 use crate::numbers::no_figures;
 use buffers::copy;
+use checks::left::left_over;
+use checks::register::check_symbols;
 use checks::syndrome::all_zero;
 use checks::syndrome::syndromes;
 use decoder::correct::correct;
@@ -51,6 +52,28 @@ fn found(e: usize, f: usize, bits: usize) -> Correction
     }
 }
 
+// The figures of a received codeword with f marks: nothing has to be counted.
+pub fn clean_figures(f: usize) -> Figures
+    requires { ⌜ f ≤ 255 ⌝ }
+    ensures { λ r. ⌜ CleanFigures f r ⌝ }
+{
+    Figures {
+        errors: 0,
+        marked: f as u16,
+        bits: 0,
+    }
+}
+
+// What a received word leaves of the check symbols of its message: the first r entries.
+pub fn rest_of(s: Setting, received: &[u8]) -> [u8; 16]
+    requires { ⌜ (s .r ≤ 16) × (s .r ≤ s .n) × (length (now received) ≡ s .n) ⌝ }
+    ensures { λ rest. ⌜ LeftOver (s .m) (s .b) (s .r) (now (received .entry)) (take (s .r) rest) ⌝ }
+{
+    let k = s.n - s.r;
+    let checks = check_symbols(s.m, s.b, s.r, &received[0..k]);
+    left_over(s.r, checks, &received[k..])
+}
+
 // Corrects every candidate place of a word with these power sums, f of whose places are marked, and gives the power sums that are left.
 fn correct_places(s: Setting, marks: &[u8], f: usize, sums: [u8; 16], word: &mut [u8]) -> [u8; 16]
     requires { ⌜ (s .n ≤ 255) × (s .r ≤ 16) × (s .b ≤ 1) × (f ≤ s .r) × (length (now marks) ≡ s .n) × (length (now word) ≡ s .n) ⌝ }
@@ -75,7 +98,7 @@ fn correct_errors(
     sums: [u8; 16],
     out: &mut [u8],
 ) -> Correction
-    requires { ⌜ Measured s (now marks) (now received) f sums × (now out ≡ now received) ⌝ }
+    requires { ⌜ Summed s (now marks) (now received) f sums × (now out ≡ now received) ⌝ }
     ensures { λ r. ⌜ Corrects s (now (marks .entry)) (now (received .entry)) (now (out .exit)) r ⌝ }
 {
     let rest = correct_places(s, marks, f, sums, out);
@@ -89,19 +112,21 @@ fn correct_errors(
     found(e, f, count_bits(received, out))
 }
 
-// Puts the codeword with 2e + f ≤ r into `out`, where there is one. A received codeword is answered after its syndromes alone.
-pub fn correct_word(s: Setting, received: &[u8], marks: &[u8], out: &mut [u8]) -> Correction
-    requires { ⌜ Checked s (now marks) (now received) × (length (now out) ≡ s .n) ⌝ }
+// Puts the codeword with 2e + f ≤ r into `out`, where there is one. The syndromes are taken of what the word leaves over, which has at most
+// sixteen symbols.
+pub fn correct_word(
+    s: Setting,
+    f: usize,
+    rest: [u8; 16],
+    received: &[u8],
+    marks: &[u8],
+    out: &mut [u8],
+) -> Correction
+    requires { ⌜ Measured s (now marks) (now received) f rest × (length (now out) ≡ s .n) ⌝ }
     ensures { λ r. ⌜ Corrects s (now (marks .entry)) (now (received .entry)) (now (out .exit)) r ⌝ }
 {
-    let f = count_marks(marks);
-    if s.r < f {
-        return none_found();
-    }
     copy(received, out);
-    let sums = syndromes(s.m, s.b, received);
-    if all_zero(s.m, sums, s.r) {
-        return found(0, f, 0);
-    }
+    let r = s.r;
+    let sums = syndromes(s.m, s.b, &rest[0..r]);
     correct_errors(s, received, marks, f, sums, out)
 }

@@ -36,18 +36,18 @@ pub fn count_errors(marks: &[u8], received: &[u8], word: &[u8]) -> usize
     e
 }
 
-// How many places are marked, where each mark is 0 or 1.
+// How many places are marked, where each mark is 0 or 1. No word has more than 255, so they are counted in bytes, many at once.
 pub fn count_marks(marks: &[u8]) -> usize
     requires { ⌜ (length (now marks) ≤ 255) × T (below 2 (now marks)) ⌝ }
     ensures { λ r. ⌜ (r ≡ total (length (now (marks .entry))) (at (now (marks .entry)))) × (r ≤ length (now (marks .entry))) ⌝ }
 {
-    let mut f: usize = 0;
+    let mut f: u8 = 0;
     let mut i = 0;
     while i < marks.len() {
-        f += marks[i] as usize;
+        f += marks[i];
         i += 1;
     }
-    f
+    f as usize
 }
 
 // How many bits of two symbols differ.

@@ -11,14 +11,18 @@ ghost use Prim.Native.Nat.{_<_, _≤_};
 ghost use lib.ListN.{length};
 ghost use Rattle.word.specs.Answers.{encodedNumber};
 ghost use Rattle.word.specs.Promises.{Encodes, Decodes, DecodesPart};
-ghost use Rattle.word.specs.Refusals.{Checked};
+ghost use Rattle.word.specs.Setting.{messageSize};
 ghost use Rattle.word.specs.Met.{Refuses};
-ghost use Rattle.word.specs.Correcting.{Answered};
+ghost use Rattle.word.specs.Correcting.{Measured, Answered};
+use buffers::all_below;
 use buffers::copy;
 use buffers::join;
 use buffers::work_space;
 use checks::register::check_symbols;
+use correct::clean_figures;
 use correct::correct_word;
+use correct::rest_of;
+use count::count_marks;
 use limits::decode_refusal;
 use limits::encode_refusal;
 pub use limits::is_allowed;
@@ -100,22 +104,69 @@ fn decode_refused(number: u8) -> Decoded
     Decoded::BadSymbol
 }
 
-// What a received word is answered, once its checks have given this number. An accepted word's correction is put at the front of the
-// work space.
-fn answer(s: Setting, number: u8, received: &[u8], marks: &[u8], work: &mut [u8]) -> Decoded
-    requires { ⌜ (number ≤ 3) × (number ≡ 0 → Checked s (now marks) (now received)) × (length (now work) ≡ 255) ⌝ }
-    ensures { λ d. ⌜ Answered s number (now (received .entry)) (now (marks .entry)) (now (work .exit)) d ⌝ }
+// What a damaged word is answered: its correction is put at the front of the work space, where there is one.
+fn answer(
+    s: Setting,
+    f: usize,
+    rest: [u8; 16],
+    received: &[u8],
+    marks: &[u8],
+    work: &mut [u8],
+) -> Decoded
+    requires { ⌜ Measured s (now marks) (now received) f rest × (length (now work) ≡ 255) ⌝ }
+    ensures { λ d. ⌜ Answered s (now (received .entry)) (now (marks .entry)) (now (work .exit)) d ⌝ }
 {
-    if number != 0 {
-        return decode_refused(number);
-    }
     let n = s.n;
-    let correction = correct_word(s, received, marks, &mut work[0..n]);
+    let correction = correct_word(s, f, rest, received, marks, &mut work[0..n]);
     if !correction.found {
         return Decoded::BeyondReach;
     }
     let figures = correction.figures;
     Decoded::Done(figures)
+}
+
+// Corrects a word that has passed the checks where it stands. Nothing is copied or written unless it is damaged.
+fn in_place(s: Setting, f: usize, rest: [u8; 16], word: &mut [u8], marks: &[u8]) -> Decoded
+    requires { ⌜ Measured s (now marks) (now word) f rest ⌝ }
+    ensures { λ d. ⌜ Decodes s (now (word .entry)) (now (marks .entry)) d (now (word .exit)) ⌝ }
+{
+    let r = s.r;
+    if all_below(&rest[0..r], 1) {
+        return Decoded::Done(clean_figures(f));
+    }
+    let mut work = work_space();
+    let d = answer(s, f, rest, word, marks, &mut work);
+    if number_of(d) != 0 {
+        return d;
+    }
+    copy(&work, word);
+    d
+}
+
+// The same with the message put into a part of its own, and the received word only read.
+fn to_part(
+    s: Setting,
+    f: usize,
+    rest: [u8; 16],
+    received: &[u8],
+    marks: &[u8],
+    part: &mut [u8],
+) -> Decoded
+    requires { ⌜ Measured s (now marks) (now received) f rest × (length (now part) ≡ messageSize s) ⌝ }
+    ensures { λ d. ⌜ DecodesPart s (now (received .entry)) (now (marks .entry)) (now (part .entry)) d (now (part .exit)) ⌝ }
+{
+    let r = s.r;
+    if all_below(&rest[0..r], 1) {
+        copy(received, part);
+        return Decoded::Done(clean_figures(f));
+    }
+    let mut work = work_space();
+    let d = answer(s, f, rest, received, marks, &mut work);
+    if number_of(d) != 0 {
+        return d;
+    }
+    copy(&work, part);
+    d
 }
 
 // Corrects a received word where it stands to the codeword with 2e + f ≤ r; its marks are only read.
@@ -124,14 +175,16 @@ fn answer(s: Setting, number: u8, received: &[u8], marks: &[u8], work: &mut [u8]
 pub fn decode(s: Setting, word: &mut [u8], marks: &[u8]) -> Decoded
     ensures { λ d. ⌜ Decodes s (now (word .entry)) (now (marks .entry)) d (now (word .exit)) ⌝ }
 {
-    let mut work = work_space();
     let number = decode_refusal(s, word, marks);
-    let d = answer(s, number, word, marks, &mut work);
-    if number_of(d) != 0 {
-        return d;
+    if number != 0 {
+        return decode_refused(number);
     }
-    copy(&work, word);
-    d
+    let f = count_marks(marks);
+    if s.r < f {
+        return Decoded::BeyondReach;
+    }
+    let rest = rest_of(s, word);
+    in_place(s, f, rest, word, marks)
 }
 
 // The same with the received word only read: the k message symbols of the corrected word go to the lent part. Refused as `decode`
@@ -139,12 +192,14 @@ pub fn decode(s: Setting, word: &mut [u8], marks: &[u8]) -> Decoded
 pub fn decode_part(s: Setting, received: &[u8], marks: &[u8], part: &mut [u8]) -> Decoded
     ensures { λ d. ⌜ DecodesPart s (now (received .entry)) (now (marks .entry)) (now (part .entry)) d (now (part .exit)) ⌝ }
 {
-    let mut work = work_space();
     let number = part_refusal(s, received, marks, part);
-    let told = answer(s, number, received, marks, &mut work);
-    if number_of(told) != 0 {
-        return told;
+    if number != 0 {
+        return decode_refused(number);
     }
-    copy(&work, part);
-    told
+    let f = count_marks(marks);
+    if s.r < f {
+        return Decoded::BeyondReach;
+    }
+    let rest = rest_of(s, received);
+    to_part(s, f, rest, received, marks, part)
 }

@@ -48,11 +48,16 @@ abbrev μ-loop : tie.MeasureT-loop
 returns : tie.Need-returns Inv-loop μ-loop
 returns c = none-above _ _ (c .if1 .taken)
 
+returns-2 : tie.Need-returns-2 Inv-loop μ-loop
+returns-2 c =
+    let known = c .before .before in
+    sym (passed _ (below-all _ _ λ i l. omega (arith, known .shared-slice-known .given i .fits)))
+
 loop-holds : tie.Need-loop-holds Inv-loop μ-loop
 loop-holds c = record { bound = omega arith; before = λ j h. absurd (omega arith); fits = some-below _ _ (omega arith) }
 
-shared-slice-read-if2 : tie.Need-shared-slice-read-if2 Inv-loop μ-loop
-shared-slice-read-if2 c = omega arith
+shared-slice-read-if3 : tie.Need-shared-slice-read-if3 Inv-loop μ-loop
+shared-slice-read-if3 c = omega arith
 
 shared-slice-read-most : tie.Need-shared-slice-read-most Inv-loop μ-loop
 shared-slice-read-most c = omega arith
@@ -66,23 +71,23 @@ loop-less c = omega arith
 loop-again : tie.Need-loop-again Inv-loop μ-loop
 loop-again c =
     let o = c .before .before .before in
-    let s = o .before .before .before .args .s .now in
-    let q = o .before .before .before .args .q in
+    let s = o .before .before .before .before .args .s .now in
+    let q = o .before .before .before .before .args .q in
     let l = c .before .before .loop-test .taken in
     ⊎-elim
     (λ w. rw (w .2) (larger q s (o .loop .i) (o .loop .most) _ l (omega arith) (omega (arith, w .0 .taken))
     (λ t. below-at q s t (o .loop .i) (some-below q s (omega arith) t)) (o .loop .inv)))
     (λ w. rw (w .1) (larger q s (o .loop .i) (o .loop .most) _ l (w .0 .left) (omega arith) (o .loop .inv .fits) (o .loop .inv)))
-    (c .if2 .came)
+    (c .if3 .came)
 
 widen-requires : tie.Need-widen-requires Inv-loop μ-loop
 widen-requires c κs = search needs
 
-returns-2 : tie.Need-returns-2 Inv-loop μ-loop
-returns-2 c = not-all _ λ t. omega (arith, c .before .widen .ensures, c .before .before .before .loop .inv .fits t)
-
 returns-3 : tie.Need-returns-3 Inv-loop μ-loop
-returns-3 c = sym (passed _ (below-all _ _ λ j l. omega (arith, c .before .widen .ensures, c .before .before .before .loop .inv .before j (omega arith))))
+returns-3 c = not-all _ λ t. omega (arith, c .before .widen .ensures, c .before .before .before .loop .inv .fits t)
+
+returns-4 : tie.Need-returns-4 Inv-loop μ-loop
+returns-4 c = sym (passed _ (below-all _ _ λ j l. omega (arith, c .before .widen .ensures, c .before .before .before .loop .inv .before j (omega arith))))
 
 pub all-below-spec : {M : Type 1} → statement M
 all-below-spec =
@@ -91,12 +96,13 @@ all-below-spec =
     Inv-loop
     μ-loop
     returns
+    returns-2
     loop-holds
-    shared-slice-read-if2
+    shared-slice-read-if3
     shared-slice-read-most
     add-i
     loop-less
     loop-again
     widen-requires
-    returns-2
-    returns-3)
+    returns-3
+    returns-4)

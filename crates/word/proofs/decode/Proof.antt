@@ -1,76 +1,71 @@
--- `decode` meets its contract: `answer` says what the paper says, and an accepted word is copied over the received one.
+-- `decode` meets its contract: a refusal and more marks than check symbols leave the word, and `in_place` promises the rest.
 -- Assumes nothing.
 use mathlib.Core.Path.{sym, _∙_}
 use native.Mathlib.Omega.{arith}
-use borrow.Author.Needs.{needs}
 use Rattle.word.specs.Setting.{limits, at-most}
 use Rattle.word.specs.Refusals.{checked}
-use Rattle.word.specs.Met.{decodes-by}
+use Rattle.word.specs.Met.{decode-refused, decode-lost}
+use Rattle.word.specs.Correcting.{marks-counted, overmarked}
+use borrow.Author.Needs.{needs}
 use Rattle.word.proofs.decode.Statement.{statement}
 use Rattle.word.proofs.decode.Tie as tie
-
-work-space-requires : tie.Need-work-space-requires
-work-space-requires c κs = search needs
 
 decode-refusal-requires : tie.Need-decode-refusal-requires
 decode-refusal-requires c κs = search needs
 
-slice-aggregate-answer : tie.Need-slice-aggregate-answer
-slice-aggregate-answer c = search needs
-
-answer-requires : tie.Need-answer-requires
-answer-requires c κs =
-    let told = c .before .before in
-    (told .decode-refusal .ensures .1, λ z. checked _ _ _ (sym (told .decode-refusal .ensures .0) ∙ z), told .before .before .work-space .ensures)
-
-number-of-requires : tie.Need-number-of-requires
-number-of-requires c κs = search needs
+decode-refused-requires : tie.Need-decode-refused-requires
+decode-refused-requires c κs = (omega arith, c .before .decode-refusal .ensures .1)
 
 same-length : tie.Need-same-length
 same-length c = search needs
 
 returns : tie.Need-returns
-returns c =
-    let answered = c .before .before .before in
-    decodes-by _ _ _ _ _ _ (answered .before .before .before .decode-refusal .ensures .0)
-    (answered .answer .ensures .refused (λ z. c .if1 .taken (c .before .number-of .ensures ∙ z)) (λ w. w) _)
+returns c = decode-refused _ _ _ _ _ (c .before .before .decode-refusal .ensures .0) (omega arith) (c .decode-refused .ensures)
 
-slice-aggregate-copy : tie.Need-slice-aggregate-copy
-slice-aggregate-copy c = sym (c .before .before .before .before .answer .ensures .size)
-
-copy-requires : tie.Need-copy-requires
-copy-requires c κs =
-    let done = c .before .before in
-    let answered = done .before .before .before in
-    let zero = answered .answer .ensures .checked (sym (done .before .number-of .ensures) ∙ done .if1 .left) in
-    let k = checked _ _ _ (sym (answered .before .before .before .decode-refusal .ensures .0) ∙ sym zero) in
-    omega (arith, k .size, at-most _ (limits _ (k .setting)), answered .answer .ensures .size)
+count-marks-requires : tie.Need-count-marks-requires
+count-marks-requires c κs =
+    let k = checked _ _ _ (sym (c .before .decode-refusal .ensures .0) ∙ c .if1 .left) in
+    (omega (arith, k .marks-size, at-most _ (limits _ (k .setting))), k .marks-small)
 
 same-length-2 : tie.Need-same-length-2
 same-length-2 c = search needs
 
 returns-2 : tie.Need-returns-2
 returns-2 c =
-    let copied = c .before .before in
-    let done = copied .before .before .before in
-    let answered = done .before .before .before in
-    let told = answered .before .before .before .decode-refusal .ensures .0 in
-    let accepted = sym (done .before .number-of .ensures) ∙ done .if1 .left in
-    let k = checked _ _ _ (sym told ∙ sym (answered .answer .ensures .checked accepted)) in
-    rw (copied .copy .ensures, k .size) (decodes-by _ _ _ _ _ _ told (answered .answer .ensures .done accepted (λ w. w) _))
+    let counted = c .before .before in
+    let k = checked _ _ _ (sym (counted .before .before .decode-refusal .ensures .0) ∙ counted .before .if1 .left) in
+    decode-lost _ _ _ k (overmarked _ _ _ k _ (marks-counted _ _ _ k _ (counted .count-marks .ensures .0)) (c .if2 .taken))
+
+rest-of-requires : tie.Need-rest-of-requires
+rest-of-requires c κs =
+    let counted = c .before .before .before in
+    let k = checked _ _ _ (sym (counted .before .before .decode-refusal .ensures .0) ∙ counted .before .if1 .left) in
+    (limits _ (k .setting) .high, omega (arith, limits _ (k .setting) .room), k .size)
+
+in-place-requires : tie.Need-in-place-requires
+in-place-requires c κs =
+    let counted = c .before .before .before .before .before in
+    let k = checked _ _ _ (sym (counted .before .before .decode-refusal .ensures .0) ∙ counted .before .if1 .left) in
+    record { checked = k; counted = marks-counted _ _ _ k _ (counted .count-marks .ensures .0); few = omega arith; left = c .before .rest-of .ensures }
+
+same-length-3 : tie.Need-same-length-3
+same-length-3 c = search needs
+
+returns-3 : tie.Need-returns-3
+returns-3 c = search needs
 
 pub decode-spec : {M : Type 1} → statement M
 decode-spec =
     tie.close
     (tie.spec
-    work-space-requires
     decode-refusal-requires
-    slice-aggregate-answer
-    answer-requires
-    number-of-requires
+    decode-refused-requires
     same-length
     returns
-    slice-aggregate-copy
-    copy-requires
+    count-marks-requires
     same-length-2
-    returns-2)
+    returns-2
+    rest-of-requires
+    in-place-requires
+    same-length-3
+    returns-3)

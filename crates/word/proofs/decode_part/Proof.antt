@@ -1,77 +1,71 @@
--- `decode_part` meets its contract: `answer` says what the paper says, and the front of an accepted word is copied to the part.
+-- `decode_part` meets its contract: a refusal and more marks than check symbols leave the part, and `to_part` promises the rest.
 -- Assumes nothing.
 use mathlib.Core.Path.{sym, _∙_}
 use native.Mathlib.Omega.{arith}
-use borrow.Author.Needs.{needs}
 use Rattle.word.specs.Setting.{limits, at-most}
 use Rattle.word.specs.Refusals.{part-checked}
-use Rattle.word.specs.Met.{part-by}
-use Rattle.word.specs.Correcting.{message-front}
+use Rattle.word.specs.Met.{part-refused, part-lost}
+use Rattle.word.specs.Correcting.{marks-counted, overmarked}
+use borrow.Author.Needs.{needs}
 use Rattle.word.proofs.decode_part.Statement.{statement}
 use Rattle.word.proofs.decode_part.Tie as tie
-
-work-space-requires : tie.Need-work-space-requires
-work-space-requires c κs = search needs
 
 part-refusal-requires : tie.Need-part-refusal-requires
 part-refusal-requires c κs = search needs
 
-slice-aggregate-answer : tie.Need-slice-aggregate-answer
-slice-aggregate-answer c = search needs
-
-answer-requires : tie.Need-answer-requires
-answer-requires c κs =
-    let told = c .before in
-    (told .part-refusal .ensures .1, λ z. part-checked _ _ _ _ (sym (told .part-refusal .ensures .0) ∙ z) .1, told .before .before .work-space .ensures)
-
-number-of-requires : tie.Need-number-of-requires
-number-of-requires c κs = search needs
+decode-refused-requires : tie.Need-decode-refused-requires
+decode-refused-requires c κs = (omega arith, c .before .part-refusal .ensures .1)
 
 same-length : tie.Need-same-length
 same-length c = search needs
 
 returns : tie.Need-returns
-returns c =
-    let answered = c .before .before .before in
-    part-by _ _ _ _ _ _ _ (answered .before .before .part-refusal .ensures .0)
-    (answered .answer .ensures .refused (λ z. c .if1 .taken (c .before .number-of .ensures ∙ z)) _ _)
+returns c = part-refused _ _ _ _ _ _ (c .before .before .part-refusal .ensures .0) (omega arith) (c .decode-refused .ensures)
 
-slice-aggregate-copy : tie.Need-slice-aggregate-copy
-slice-aggregate-copy c = sym (c .before .before .before .before .answer .ensures .size)
-
-copy-requires : tie.Need-copy-requires
-copy-requires c κs =
-    let done = c .before .before in
-    let answered = done .before .before .before in
-    let zero = answered .answer .ensures .checked (sym (done .before .number-of .ensures) ∙ done .if1 .left) in
-    let k = part-checked _ _ _ _ (sym (answered .before .before .part-refusal .ensures .0) ∙ sym zero) in
-    omega (arith, k .0, at-most _ (limits _ (k .1 .setting)), answered .answer .ensures .size)
+count-marks-requires : tie.Need-count-marks-requires
+count-marks-requires c κs =
+    let k = part-checked _ _ _ _ (sym (c .before .part-refusal .ensures .0) ∙ c .if1 .left) .1 in
+    (omega (arith, k .marks-size, at-most _ (limits _ (k .setting))), k .marks-small)
 
 same-length-2 : tie.Need-same-length-2
 same-length-2 c = search needs
 
 returns-2 : tie.Need-returns-2
 returns-2 c =
-    let copied = c .before .before in
-    let done = copied .before .before .before in
-    let answered = done .before .before .before in
-    let told = answered .before .before .part-refusal .ensures .0 in
-    let accepted = sym (done .before .number-of .ensures) ∙ done .if1 .left in
-    let k = part-checked _ _ _ _ (sym told ∙ sym (answered .answer .ensures .checked accepted)) in
-    rw (copied .copy .ensures, k .0, ← message-front _ _ _) (part-by _ _ _ _ _ _ _ told (answered .answer .ensures .done accepted _ _))
+    let counted = c .before .before in
+    let k = part-checked _ _ _ _ (sym (counted .before .before .part-refusal .ensures .0) ∙ counted .before .if1 .left) in
+    part-lost _ _ _ _ (k .0) (k .1) (overmarked _ _ _ (k .1) _ (marks-counted _ _ _ (k .1) _ (counted .count-marks .ensures .0)) (c .if2 .taken))
+
+rest-of-requires : tie.Need-rest-of-requires
+rest-of-requires c κs =
+    let counted = c .before .before in
+    let k = part-checked _ _ _ _ (sym (counted .before .before .part-refusal .ensures .0) ∙ counted .before .if1 .left) .1 in
+    (limits _ (k .setting) .high, omega (arith, limits _ (k .setting) .room), k .size)
+
+to-part-requires : tie.Need-to-part-requires
+to-part-requires c κs =
+    let counted = c .before .before .before .before in
+    let k = part-checked _ _ _ _ (sym (counted .before .before .part-refusal .ensures .0) ∙ counted .before .if1 .left) in
+    (record { checked = k .1; counted = marks-counted _ _ _ (k .1) _ (counted .count-marks .ensures .0); few = omega arith; left = c .before .rest-of .ensures }, k .0)
+
+same-length-3 : tie.Need-same-length-3
+same-length-3 c = search needs
+
+returns-3 : tie.Need-returns-3
+returns-3 c = search needs
 
 pub decode-part-spec : {M : Type 1} → statement M
 decode-part-spec =
     tie.close
     (tie.spec
-    work-space-requires
     part-refusal-requires
-    slice-aggregate-answer
-    answer-requires
-    number-of-requires
+    decode-refused-requires
     same-length
     returns
-    slice-aggregate-copy
-    copy-requires
+    count-marks-requires
     same-length-2
-    returns-2)
+    returns-2
+    rest-of-requires
+    to-part-requires
+    same-length-3
+    returns-3)

@@ -30,7 +30,7 @@ returns c =
     let places = c .before .before .before .before .before in
     let start = places .before .before .before .before .before in
     let k = start .pre .0 in
-    lost-left _ _ _ (k .checked) _ (k .counted) (k .few) _ (k .syndromes) _ _ (rw (start .pre .1) at (places .correct-places .ensures)) _
+    lost-left _ _ _ (k .checked) _ (k .counted) (k .few) _ (k .measured) _ _ (rw (start .pre .1) at (places .correct-places .ensures)) _
     (sym (c .before .before .all-zero .ensures) ∙ not-true _ (c .before .if1 .taken)) (c .none-found .ensures)
 
 count-errors-requires : tie.Need-count-errors-requires
@@ -61,7 +61,7 @@ returns-2 c =
     let places = counted .before .before .before .before .before .before in
     let start = places .before .before .before .before .before in
     let k = start .pre .0 in
-    lost-far _ _ _ (k .checked) _ (k .counted) (k .few) _ (k .syndromes) _ _ (rw (start .pre .1) at (places .correct-places .ensures)) _ _
+    lost-far _ _ _ (k .checked) _ (k .counted) (k .few) _ (k .measured) _ _ (rw (start .pre .1) at (places .correct-places .ensures)) _ _
     (counted .count-errors .ensures .0) (c .before .if2 .taken) (c .none-found2 .ensures)
 
 count-bits-requires : tie.Need-count-bits-requires
@@ -87,7 +87,7 @@ returns-3 c =
     let places = zero .before .before .before .before in
     let start = places .before .before .before .before .before in
     let k = start .pre .0 in
-    found-corrected _ _ _ (k .checked) _ (k .counted) (k .few) _ (k .syndromes) _ _ (rw (start .pre .1) at (places .correct-places .ensures)) _ _
+    found-corrected _ _ _ (k .checked) _ (k .counted) (k .few) _ (k .measured) _ _ (rw (start .pre .1) at (places .correct-places .ensures)) _ _
     (counted .count-errors .ensures .0) (omega arith) (sym (zero .before .all-zero .ensures) ∙ not-false _ (zero .if1 .left)) _ (c .before .count-bits .ensures .0) (c .found .ensures)
 
 pub correct-errors-spec : {M : Type 1} → statement M

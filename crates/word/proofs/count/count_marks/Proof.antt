@@ -1,4 +1,4 @@
--- `figures::count_marks` meets its contract. The loop's invariant: `f` is the sum of the marks before `i`, each at most 1.
+-- `count::count_marks` meets its contract. The loop's invariant: `f` is the sum of the marks before `i`, each at most 1.
 -- Assumes nothing.
 use mathlib.Core.Path.{_≡_, refl}
 use Prim.Native.Nat.{_-_, _≤_}
@@ -20,9 +20,6 @@ loop-holds c = (omega arith, omega arith, unfold total in refl)
 shared-slice-read-f : tie.Need-shared-slice-read-f Inv-loop μ-loop
 shared-slice-read-f c = omega arith
 
-cast-f : tie.Need-cast-f Inv-loop μ-loop
-cast-f c = omega (arith, below-at 2 _ (c .before .before .before .pre .1) (c .before .before .loop .i) (omega arith))
-
 add-f : tie.Need-add-f Inv-loop μ-loop
 add-f c = omega (arith, below-at 2 _ (c .before .before .before .pre .1) (c .before .before .loop .i) (omega arith))
 
@@ -35,6 +32,9 @@ loop-less c = omega arith
 loop-again : tie.Need-loop-again Inv-loop μ-loop
 loop-again c =
     (omega arith, omega (arith, below-at 2 _ (c .before .before .before .pre .1) (c .before .before .loop .i) (omega arith)), total-more _ _ _ _ (c .before .before .loop .inv .2) refl)
+
+cast-result : tie.Need-cast-result Inv-loop μ-loop
+cast-result c = omega arith
 
 returns : tie.Need-returns Inv-loop μ-loop
 returns c =
@@ -49,9 +49,9 @@ count-marks-spec =
     μ-loop
     loop-holds
     shared-slice-read-f
-    cast-f
     add-f
     add-i
     loop-less
     loop-again
+    cast-result
     returns)

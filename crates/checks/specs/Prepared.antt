@@ -1,0 +1,34 @@
+-- Tables that are made once for many words of one code, and the check symbols that they give.
+-- Assumes nothing.
+use mathlib.Core.Path.{_≡_, refl}
+use mathlib.Core.List.{List}
+use Prim.Native.Nat.{ℕ, _<_, _≤_}
+use native.Mathlib.Omega.{arith}
+use lib.ListN.{length}
+use Rattle.algebra.specs.Bytes.{bytes}
+use Rattle.checks.specs.Checks.{divisor, Checks}
+use Rattle.checks.specs.Rows.{Rows}
+use Rattle.checks.specs.Division.{Divided, divided-all}
+use Rattle.checks.specs.Short.{none}
+
+-- the two tables are those of the code with the r roots from a^b on; up to eight check symbols leave nothing in the second
+pub record Prepared (m b r : ℕ) (low high : List ℕ) : Type 0 where
+  pub few : r ≤ 16
+  pub rows : Rows 4 m (divisor m b r) low high
+  pub alone : r ≤ 8 → high ≡ none
+
+-- the first r entries of `result` are the message's check symbols in every code whose tables these are
+pub record ChecksBy (r : ℕ) (low high message result : List ℕ) : Type 0 where
+  pub each : (m b : ℕ) → Prepared m b r low high → Checks m b r message result
+
+pub prepared-short : (m b r : ℕ) (low high : List ℕ) → r ≤ 8 → high ≡ none → Rows 4 m (divisor m b r) low none → Prepared m b r low high
+prepared-short m b r low high l e rows = record { few = omega arith; rows = rw e rows; alone = λ h. e }
+
+pub prepared-long : (m b r : ℕ) (low high : List ℕ) → r ≤ 16 → 8 < r → Rows 4 m (divisor m b r) low high → Prepared m b r low high
+prepared-long m b r low high l h rows = record { few = l; rows = rows; alone = λ k. absurd (omega arith) }
+
+pub by-short : (r : ℕ) (low high message : List ℕ) (x : ℕ) → r ≤ 8 → Divided low none message (length message) x 0 → ChecksBy r low high message (bytes x 0)
+by-short r low high message x l d = record { each = λ m b p. divided-all m b r low none message (length message) x 0 (p .few) (rw (p .alone l) at (p .rows)) (omega arith) d }
+
+pub by-long : (r : ℕ) (low high message : List ℕ) (x y : ℕ) → Divided low high message (length message) x y → ChecksBy r low high message (bytes x y)
+by-long r low high message x y d = record { each = λ m b p. divided-all m b r low high message (length message) x y (p .few) (p .rows) (omega arith) d }

@@ -1,0 +1,4 @@
+pub mod Moves
+pub mod Combs
+pub mod Doubles
+pub mod Factors
