@@ -15,7 +15,7 @@ use Rattle.algebra.specs.Peel.{Rep}
 use Rattle.algebra.specs.Horner.{coef}
 use Rattle.field.specs.Elements.{K}
 use Rattle.checks.specs.Roots.{spots}
-use Rattle.checks.specs.Left.{LeftOver, left-none, left-sums}
+use Rattle.checks.specs.Left.{left-sums}
 use Rattle.word.specs.Word.{errors, marked, bits}
 use Rattle.word.specs.Codeword.{qualifies, Codeword, in-reach, is-in-reach}
 use Rattle.word.specs.Distance.{errors-self, bits-self}
@@ -24,7 +24,7 @@ use Rattle.word.specs.Code.Laws.{corrected-only, corrected-none}
 use Rattle.word.specs.Answers.{numberOf, figures}
 use Rattle.word.specs.Refusals.{Checked}
 use Rattle.word.specs.Setting.{limits}
-use Rattle.word.specs.Completion.{codeword-from}
+use Rattle.word.specs.Looking.{Measured}
 use Rattle.checks.specs.Syndromes.{Syndromes, allZero, allZero-at, allZero-yes}
 use Rattle.decoder.specs.Peeling.{PeeledAll}
 use Rattle.decoder.specs.Elimination.{KernelVector}
@@ -52,18 +52,7 @@ pub record FoundWith (e f b : ℕ) (r : Correction) : Type 0 where
   pub found : r .found ≡ true
   pub figures : r .figures ≡ record { errors = e; marked = f; bits = b }
 
--- the figures of a received codeword with f marks
-pub record CleanFigures (f : ℕ) (r : Figures) : Type 0 where
-  pub figures : r ≡ record { errors = 0; marked = f; bits = 0 }
-
--- what is known of a received word once its marks are counted, and it is known what it leaves of its message's check symbols
-pub record Measured (s : Setting) (marks received : List ℕ) (f : ℕ) (rest : List ℕ) : Type 0 where
-  pub checked : Checked s marks received
-  pub counted : f ≡ marked marks received
-  pub few : f ≤ s .r
-  pub left : LeftOver (s .m) (s .b) (s .r) received (take (s .r) rest)
-
--- and once its power sums are
+-- what is known of a received word once its marks are counted and its power sums taken
 pub record Summed (s : Setting) (marks received : List ℕ) (f : ℕ) (sums : List ℕ) : Type 0 where
   pub checked : Checked s marks received
   pub counted : f ≡ marked marks received
@@ -85,15 +74,6 @@ module _ (s : Setting) (marks received : List ℕ) (ch : Checked s marks receive
 
   corrects-found : (out : List ℕ) (r : Correction) → length out ≡ s .n → r .found ≡ true → r .figures ≡ figures marks received out → T (qualifies s marks received out) → Corrects s marks received out r
   corrects-found out r n e g q = record { size = n; found = λ h. (corrected-only s (ch .setting) marks received (ch .size) out q, g); lost = λ h. absurd (different (sym e ∙ h)) }
-
-  -- the marks that were counted
-  pub marks-counted : (f : ℕ) → f ≡ total (length marks) (at marks) → f ≡ marked marks received
-  unfolding marked
-  marks-counted f e = e ∙ ap (λ (k : ℕ). total k (at marks)) (ch .marks-size ∙ sym (ch .size))
-
-  -- more marks than check symbols
-  pub overmarked : (f : ℕ) → f ≡ marked marks received → s .r < f → corrected s marks received ≡ none
-  overmarked f e l = corrected-none s marks received λ c q. omega (arith, in-reach s marks received c q .bound)
 
   module _ (f : ℕ) (ef : f ≡ marked marks received) (few : f ≤ s .r) (S : List ℕ)
       (sums : Rep (K (s .m)) (spots (s .m) (s .n) (s .b)) (s .r) (λ j. at S j) (coef (K (s .m)) received)) where
@@ -147,32 +127,6 @@ copied out received copy n e f h = h ∙ ap (λ (k : ℕ). take k received) (e �
 -- the message is the front of the word
 pub message-front : (n r : ℕ) (xs : List ℕ) → take (n - r) (take n xs) ≡ take (n - r) xs
 message-front n r xs = take-take (n - r) n xs (omega arith)
-
--- ---- a received codeword
-
--- a front of r entries, as the code takes it
-pub front-of : (r : ℕ) (w : List ℕ) → take (r - 0) w ≡ take r w
-front-of r w = let e : r - 0 ≡ r = omega arith in ap (λ (k : ℕ). take k w) e
-
--- the test of what is left over
-pub nothing-left : (rest : List ℕ) (t : Bool) → t ≡ below 1 rest → t ≡ true → T (below 1 rest)
-nothing-left rest t e h = rw (← e, h) tt
-
--- where nothing is left over, the received word is the one that qualifies, and its figures are those of a codeword
-module _ (s : Setting) (marks received rest : List ℕ) (f : ℕ) (h : Measured s marks received f rest) (none-left : T (below 1 (take (s .r) rest))) where
-  abbrev k : Checked s marks received
-  k = h .checked
-
-  is-clean : Codeword s received
-  is-clean = codeword-from s (limits s (k .setting)) received (k .size) (k .small)
-      (left-none (s .m) (s .b) (s .r) received (take (s .r) rest) (h .left) λ i. omega (arith, below-at 1 (take (s .r) rest) none-left i (omega arith)))
-
-  pub clean-corrected : corrected s marks received ≡ some received
-  clean-corrected = corrected-only s (k .setting) marks received (k .size) received
-      (is-in-reach s marks received received (record { code = is-clean; bound = omega (arith, errors-self marks received, h .few, h .counted) }))
-
-  pub clean-figures : (r : Figures) → CleanFigures f r → r ≡ figures marks received received
-  clean-figures r g = g .figures ∙ rw (errors-self marks received, bits-self received, ← h .counted)
 
 -- a damaged word with its power sums
 pub summed : (s : Setting) (marks received rest : List ℕ) (f : ℕ) (sums : List ℕ) → Measured s marks received f rest → Syndromes (s .m) (s .b) (take (s .r) rest) sums

@@ -13,5 +13,6 @@ pub mod Met
 pub mod Means
 pub mod Distance
 pub mod Completion
+pub mod Looking
 pub mod Solution
 pub mod Correcting

@@ -2,17 +2,15 @@
 ghost use mathlib.Core.Path.{_≡_};
 ghost use mathlib.Core.Bool.{false};
 ghost use Prim.Native.Nat.{_*_, _≤_};
-ghost use lib.ListN.{length, take};
-ghost use Rattle.checks.specs.Left.{LeftOver};
-ghost use Rattle.word.specs.Correcting.{Steps, FoundWith, CleanFigures, Measured, Summed, Corrects};
+ghost use lib.ListN.{length};
+ghost use Rattle.word.specs.Looking.{Measured};
+ghost use Rattle.word.specs.Correcting.{Steps, FoundWith, Summed, Corrects};
 use crate::Figures;
 use crate::Setting;
 use crate::count::count_bits;
 use crate::count::count_errors;
 use crate::numbers::no_figures;
 use buffers::copy;
-use checks::left::left_over;
-use checks::register::check_symbols;
 use checks::syndrome::all_zero;
 use checks::syndrome::syndromes;
 use decoder::correct::correct;
@@ -50,28 +48,6 @@ fn found(e: usize, f: usize, bits: usize) -> Correction
             bits: bits as u16,
         },
     }
-}
-
-// The figures of a received codeword with f marks: nothing has to be counted.
-pub fn clean_figures(f: usize) -> Figures
-    requires { ⌜ f ≤ 255 ⌝ }
-    ensures { λ r. ⌜ CleanFigures f r ⌝ }
-{
-    Figures {
-        errors: 0,
-        marked: f as u16,
-        bits: 0,
-    }
-}
-
-// What a received word leaves of the check symbols of its message: the first r entries.
-pub fn rest_of(s: Setting, received: &[u8]) -> [u8; 16]
-    requires { ⌜ (s .r ≤ 16) × (s .r ≤ s .n) × (length (now received) ≡ s .n) ⌝ }
-    ensures { λ rest. ⌜ LeftOver (s .m) (s .b) (s .r) (now (received .entry)) (take (s .r) rest) ⌝ }
-{
-    let k = s.n - s.r;
-    let checks = check_symbols(s.m, s.b, s.r, &received[0..k]);
-    left_over(s.r, checks, &received[k..])
 }
 
 // Corrects every candidate place of a word with these power sums, f of whose places are marked, and gives the power sums that are left.

@@ -4,7 +4,9 @@
 pub mod correct;
 pub mod count;
 pub mod limits;
+pub mod look;
 pub mod numbers;
+pub mod tables;
 
 ghost use mathlib.Core.Path.{_≡_};
 ghost use Prim.Native.Nat.{_<_, _≤_};
@@ -13,16 +15,16 @@ ghost use Rattle.word.specs.Answers.{encodedNumber};
 ghost use Rattle.word.specs.Promises.{Encodes, Decodes, DecodesPart};
 ghost use Rattle.word.specs.Setting.{messageSize};
 ghost use Rattle.word.specs.Met.{Refuses};
-ghost use Rattle.word.specs.Correcting.{Measured, Answered};
-use buffers::all_below;
+ghost use Rattle.word.specs.Looking.{Measured, Looked};
+ghost use Rattle.word.specs.Correcting.{Answered};
 use buffers::copy;
 use buffers::join;
 use buffers::work_space;
 use checks::register::check_symbols;
-use correct::clean_figures;
 use correct::correct_word;
-use correct::rest_of;
-use count::count_marks;
+use look::Look;
+use look::clean_figures;
+use look::look_at;
 use limits::decode_refusal;
 use limits::encode_refusal;
 pub use limits::is_allowed;
@@ -125,17 +127,20 @@ fn answer(
     Decoded::Done(figures)
 }
 
-// Corrects a word that has passed the checks where it stands. Nothing is copied or written unless it is damaged.
-fn in_place(s: Setting, f: usize, rest: [u8; 16], word: &mut [u8], marks: &[u8]) -> Decoded
-    requires { ⌜ Measured s (now marks) (now word) f rest ⌝ }
+// Corrects a word that has been looked at where it stands. Nothing is copied or written unless it is damaged.
+fn in_place(s: Setting, seen: Look, word: &mut [u8], marks: &[u8]) -> Decoded
+    requires { ⌜ Looked s (now marks) (now word) seen ⌝ }
     ensures { λ d. ⌜ Decodes s (now (word .entry)) (now (marks .entry)) d (now (word .exit)) ⌝ }
 {
-    let r = s.r;
-    if all_below(&rest[0..r], 1) {
-        return Decoded::Done(clean_figures(f));
+    if seen.lost {
+        return Decoded::BeyondReach;
     }
+    if seen.clean {
+        return Decoded::Done(clean_figures(seen.marked));
+    }
+    let rest = seen.rest;
     let mut work = work_space();
-    let d = answer(s, f, rest, word, marks, &mut work);
+    let d = answer(s, seen.marked, rest, word, marks, &mut work);
     if number_of(d) != 0 {
         return d;
     }
@@ -144,24 +149,20 @@ fn in_place(s: Setting, f: usize, rest: [u8; 16], word: &mut [u8], marks: &[u8])
 }
 
 // The same with the message put into a part of its own, and the received word only read.
-fn to_part(
-    s: Setting,
-    f: usize,
-    rest: [u8; 16],
-    received: &[u8],
-    marks: &[u8],
-    part: &mut [u8],
-) -> Decoded
-    requires { ⌜ Measured s (now marks) (now received) f rest × (length (now part) ≡ messageSize s) ⌝ }
+pub fn to_part(s: Setting, seen: Look, received: &[u8], marks: &[u8], part: &mut [u8]) -> Decoded
+    requires { ⌜ Looked s (now marks) (now received) seen × (length (now part) ≡ messageSize s) ⌝ }
     ensures { λ d. ⌜ DecodesPart s (now (received .entry)) (now (marks .entry)) (now (part .entry)) d (now (part .exit)) ⌝ }
 {
-    let r = s.r;
-    if all_below(&rest[0..r], 1) {
-        copy(received, part);
-        return Decoded::Done(clean_figures(f));
+    if seen.lost {
+        return Decoded::BeyondReach;
     }
+    if seen.clean {
+        copy(received, part);
+        return Decoded::Done(clean_figures(seen.marked));
+    }
+    let rest = seen.rest;
     let mut work = work_space();
-    let d = answer(s, f, rest, received, marks, &mut work);
+    let d = answer(s, seen.marked, rest, received, marks, &mut work);
     if number_of(d) != 0 {
         return d;
     }
@@ -179,12 +180,8 @@ pub fn decode(s: Setting, word: &mut [u8], marks: &[u8]) -> Decoded
     if number != 0 {
         return decode_refused(number);
     }
-    let f = count_marks(marks);
-    if s.r < f {
-        return Decoded::BeyondReach;
-    }
-    let rest = rest_of(s, word);
-    in_place(s, f, rest, word, marks)
+    let seen = look_at(s, word, marks);
+    in_place(s, seen, word, marks)
 }
 
 // The same with the received word only read: the k message symbols of the corrected word go to the lent part. Refused as `decode`
@@ -196,10 +193,6 @@ pub fn decode_part(s: Setting, received: &[u8], marks: &[u8], part: &mut [u8]) -
     if number != 0 {
         return decode_refused(number);
     }
-    let f = count_marks(marks);
-    if s.r < f {
-        return Decoded::BeyondReach;
-    }
-    let rest = rest_of(s, received);
-    to_part(s, f, rest, received, marks, part)
+    let seen = look_at(s, received, marks);
+    to_part(s, seen, received, marks, part)
 }

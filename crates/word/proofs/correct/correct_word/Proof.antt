@@ -2,7 +2,8 @@
 -- Assumes nothing.
 use native.Mathlib.Omega.{arith}
 use Rattle.word.specs.Setting.{limits}
-use Rattle.word.specs.Correcting.{copied, front-of, summed}
+use Rattle.word.specs.Looking.{front-of}
+use Rattle.word.specs.Correcting.{copied, summed}
 use borrow.Author.Needs.{needs}
 use Rattle.word.proofs.correct.correct_word.Statement.{statement}
 use Rattle.word.proofs.correct.correct_word.Tie as tie
