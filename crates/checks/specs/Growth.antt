@@ -13,12 +13,11 @@ use Rattle.algebra.specs.Ring.{mul-comm, mul-assoc}
 use Rattle.algebra.specs.Horner.{pow}
 use Rattle.algebra.specs.Register.{sweep, sweep-at, sweep-length}
 use Rattle.algebra.specs.Bytes.{byte, byte-xor, whole, bytes, bytes-at, bytes-length}
-use Rattle.field.specs.Field.{a^}
 use Rattle.field.specs.Elements.{wide, K, prod}
 use Rattle.field.specs.Doubles.{pow-below}
 use Rattle.packed.specs.Moves.{Down}
 use Rattle.packed.specs.Factors.{Factored, Scaled, comb-prod}
-use Rattle.checks.specs.Roots.{root, root-first, root-next}
+use Rattle.checks.specs.Roots.{root, root-next}
 use Rattle.checks.specs.Checks.{divisor, en300421-generator, cross-generator, divisor-none, divisor-more}
 use Rattle.checks.specs.Division.{no-bytes}
 use Rattle.checks.specs.Starts.{divisor-below}
@@ -97,11 +96,11 @@ module _ (m b j p q r s t u v w z : ℕ) (f : Factored m (root m b j) (p ∷ q �
   factor-next = record { each = λ k l. later k l ∙ up-root m b j k }
 
 -- those of the first
-pub factor-first : (m b x : ℕ) (l : List ℕ) → x ≡ a^ (wide m) b → Factored m x l → Factored m (root m b 0) l
-factor-first m b x l e f = rw (root-first m b x e) at f
+pub factor-first : (m b x : ℕ) (l : List ℕ) → x ≡ root m b 0 → Factored m x l → Factored m (root m b 0) l
+factor-first m b x l e f = rw e at f
 
-pub first-below : (m b x : ℕ) → x ≡ a^ (wide m) b → x < 2 ^ wide m
-first-below m b x e = rw (root-first m b x e) (pow-below m (b + 0))
+pub first-below : (m b x : ℕ) → x ≡ root m b 0 → x < 2 ^ wide m
+first-below m b x e = rw e (pow-below m (b + 0))
 
 -- the words are the code's polynomial
 pub growing-all : (m b r j x y : ℕ) (l : List ℕ) → r ≡ j → Growing m b j x y l → bytes x y ≡ divisor m b r

@@ -3,8 +3,8 @@ ghost use mathlib.Core.Path.{_≡_};
 ghost use Prim.Native.Nat.{_≤_};
 ghost use Rattle.algebra.specs.Bytes.{bytes};
 ghost use Rattle.checks.specs.Checks.{divisor};
+use crate::roots::first_root;
 use field::shifts::double;
-use field::tables::power_at;
 use packed::factor::Factor;
 use packed::factor::factor_of;
 use packed::factor::scaled;
@@ -16,7 +16,7 @@ use packed::pair::sum;
 // The monic polynomial whose roots are the r powers of a from a^b on: the first r symbols, highest first, without the leading 1. Those of
 // EN 300 421 and of the cross line are stored, since most calls want one of them.
 pub fn generator(m: usize, b: usize, r: usize) -> Pair
-    requires { ⌜ r ≤ 16 ⌝ }
+    requires { ⌜ (b ≤ 1) × (r ≤ 16) ⌝ }
     ensures { λ g. ⌜ bytes (g .low) (g .high) ≡ divisor m b r ⌝ }
 {
     if m == 8 {
@@ -40,11 +40,11 @@ pub fn generator(m: usize, b: usize, r: usize) -> Pair
 
 // The same by one root after the other. The doubles of a root are the roots to come.
 fn grown(m: usize, b: usize, r: usize) -> Pair
-    requires { ⌜ r ≤ 16 ⌝ }
+    requires { ⌜ (b ≤ 1) × (r ≤ 16) ⌝ }
     ensures { λ g. ⌜ bytes (g .low) (g .high) ≡ divisor m b r ⌝ }
 {
     let mut g = none();
-    let mut f = factor_of(m, power_at(m, b));
+    let mut f = factor_of(m, first_root(m, b));
     let mut j = 0;
     while j < r {
         g = sum(g, down(scaled(f, g), f.f0));

@@ -91,7 +91,7 @@ fn doubles(m: usize, g: u64, p: &mut [u64; 8])
 
 // The table of the code with the r roots from a^b on.
 pub fn prepare(m: usize, b: usize, r: usize, low: &mut [u64; 128])
-    requires { ⌜ (r ≤ 8) × (length (now low) ≡ 128) ⌝ }
+    requires { ⌜ (b ≤ 1) × (r ≤ 8) × (length (now low) ≡ 128) ⌝ }
     ensures { λ x. ⌜ Rows 4 m (divisor m b r) (now (low .exit)) none ⌝ }
 {
     let g = generator(m, b, r);

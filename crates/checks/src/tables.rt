@@ -98,7 +98,7 @@ fn doubles(m: usize, g: Pair, p: &mut [u64; 8], q: &mut [u64; 8])
 
 // The tables of the code with the r roots from a^b on.
 pub fn prepare(m: usize, b: usize, r: usize, low: &mut [u64; 128], high: &mut [u64; 128])
-    requires { ⌜ (r ≤ 16) × (length (now low) ≡ 128) × (length (now high) ≡ 128) ⌝ }
+    requires { ⌜ (b ≤ 1) × (r ≤ 16) × (length (now low) ≡ 128) × (length (now high) ≡ 128) ⌝ }
     ensures { λ x. ⌜ Rows 4 m (divisor m b r) (now (low .exit)) (now (high .exit)) ⌝ }
 {
     let g = generator(m, b, r);

@@ -8,8 +8,8 @@ use mathlib.Core.Option.{some, none}
 use Prim.Native.Nat.{ℕ, _+_, _-_, _*_, _≤_, _<_}
 use native.Mathlib.Omega.{arith}
 use lib.Dec.{T}
-use lib.ListN.{length, take}
-use Rattle.algebra.specs.Tests.{at, total, below, below-at}
+use lib.ListN.{length, take, drop, take-append-drop}
+use Rattle.algebra.specs.Tests.{at, total, below, below-at, below-split}
 use Rattle.checks.specs.Prepared.{Prepared}
 use Rattle.checks.specs.Left.{LeftOver, left-none}
 use Rattle.word.specs.Setting.{limits}
@@ -58,9 +58,9 @@ pub record Looked (s : Setting) (marks received : List ℕ) (r : Look) : Type 0 
 pub front-of : (r : ℕ) (w : List ℕ) → take (r - 0) w ≡ take r w
 front-of r w = let e : r - 0 ≡ r = omega arith in ap (λ (k : ℕ). take k w) e
 
--- the test of what is left over
-pub nothing-left : (rest : List ℕ) (t : Bool) → t ≡ below 1 rest → t ≡ true → T (below 1 rest)
-nothing-left rest t e h = rw (← e, h) tt
+-- the test of what is left over, and of all that stands behind it
+pub nothing-left : (r : ℕ) (rest : List ℕ) (t : Bool) → t ≡ below 1 rest → t ≡ true → T (below 1 (take r rest))
+nothing-left r rest t e h = below-split 1 (take r rest) (drop r rest) (rw (take-append-drop r rest, ← e, h) tt) .0
 
 different : true ≡ false → ⊥
 different e = let z : _≡_ {A = ℕ} 0 1 = cc in omega arith

@@ -22,13 +22,13 @@ use buffers::join;
 use buffers::work_space;
 use checks::register::check_symbols;
 use correct::correct_word;
-use look::Look;
-use look::clean_figures;
-use look::look_at;
 use limits::decode_refusal;
 use limits::encode_refusal;
 pub use limits::is_allowed;
 use limits::part_refusal;
+use look::Look;
+use look::clean_figures;
+use look::look_at;
 use numbers::number_of;
 
 // What a word code is set to: m bits a symbol, n symbols a word, r check symbols, and b, the power of a at which its zeros start.

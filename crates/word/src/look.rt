@@ -13,6 +13,7 @@ use crate::Setting;
 use crate::count::count_marks;
 use buffers::all_below;
 use checks::left::left_over;
+use checks::left::padded;
 use checks::register::check_symbols;
 use checks::register::check_symbols_by;
 
@@ -56,8 +57,8 @@ fn compared(s: Setting, f: usize, checks: [u8; 16], received: &[u8]) -> Look
 {
     let r = s.r;
     let k = s.n - r;
-    let rest = left_over(r, checks, &received[k..]);
-    let clean = all_below(&rest[0..r], 1);
+    let rest = left_over(checks, padded(&received[k..]));
+    let clean = all_below(&rest, 1);
     Look {
         lost: false,
         clean,

@@ -17,20 +17,14 @@ use checks::register;
 
 // Makes the tables of a setting in two arrays, the second all zero.
 pub fn prepare(s: Setting, low: &mut [u64; 128], high: &mut [u64; 128])
-    requires { ⌜ (s .r ≤ 16) × (length (now low) ≡ 128) × (now high ≡ replicate 128 0) ⌝ }
+    requires { ⌜ (s .b ≤ 1) × (s .r ≤ 16) × (length (now low) ≡ 128) × (now high ≡ replicate 128 0) ⌝ }
     ensures { λ x. ⌜ Tabled s (now (low .exit)) (now (high .exit)) ⌝ }
 {
     register::prepare(s.m, s.b, s.r, low, high);
 }
 
 // `encode`, by tables.
-pub fn encode_by(
-    s: Setting,
-    low: &[u64; 128],
-    high: &[u64; 128],
-    message: &[u8],
-    word: &mut [u8],
-)
+pub fn encode_by(s: Setting, low: &[u64; 128], high: &[u64; 128], message: &[u8], word: &mut [u8])
     requires { ⌜ MessageChecked s (now message) (now word) × Tabled s (now low) (now high) ⌝ }
     ensures { λ x. ⌜ now (word .exit) ≡ encoded s (now (message .entry)) ⌝ }
 {

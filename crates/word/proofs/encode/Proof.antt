@@ -28,7 +28,7 @@ check-symbols-requires c κs =
     let told = c .before .encode-refusal in
     let none : told .result ≡ 0 = omega arith in
     let given = message-checked _ _ _ (sym (told .ensures .0) ∙ none) in
-    limits _ (given .setting) .high
+    (limits _ (given .setting) .start, limits _ (given .setting) .high)
 
 slice-aggregate-join : tie.Need-slice-aggregate-join
 slice-aggregate-join c = search needs

@@ -17,14 +17,14 @@ abbrev μ-loop : tie.MeasureT-loop
 none-requires : tie.Need-none-requires Inv-loop μ-loop
 none-requires c κs = search needs
 
-power-at-requires : tie.Need-power-at-requires Inv-loop μ-loop
-power-at-requires c κs = search needs
+first-root-requires : tie.Need-first-root-requires Inv-loop μ-loop
+first-root-requires c κs = search needs
 
 factor-of-requires : tie.Need-factor-of-requires Inv-loop μ-loop
-factor-of-requires c κs = first-below _ _ _ (c .power-at .ensures)
+factor-of-requires c κs = first-below _ _ _ (c .first-root .ensures)
 
 loop-holds : tie.Need-loop-holds Inv-loop μ-loop
-loop-holds c = (omega arith, growing-none _ _ _ _ _ (c .before .before .none .ensures .0) (c .before .before .none .ensures .1) (factor-first _ _ _ _ (c .before .power-at .ensures) (c .factor-of .ensures)))
+loop-holds c = (omega arith, growing-none _ _ _ _ _ (c .before .before .none .ensures .0) (c .before .before .none .ensures .1) (factor-first _ _ _ _ (c .before .first-root .ensures) (c .factor-of .ensures)))
 
 scaled-requires : tie.Need-scaled-requires Inv-loop μ-loop
 scaled-requires c κs = search needs
@@ -62,7 +62,7 @@ grown-spec =
     Inv-loop
     μ-loop
     none-requires
-    power-at-requires
+    first-root-requires
     factor-of-requires
     loop-holds
     scaled-requires

@@ -10,10 +10,10 @@ use Rattle.checks.proofs.left.left_over.Statement.{statement}
 use Rattle.checks.proofs.left.left_over.Tie as tie
 
 abbrev Inv-loop : tie.InvT-loop
-Inv-loop r received checks rest₀ i₀ rest i = (i ≤ r) × Filled 16 (leftAt checks received) i rest
+Inv-loop checks received rest₀ i₀ rest i = (i ≤ 16) × Filled 16 (leftAt checks received) i rest
 
 abbrev μ-loop : tie.MeasureT-loop
-μ-loop r received checks rest₀ i₀ rest i = r - i
+μ-loop checks received rest₀ i₀ rest i = 16 - i
 
 loop-holds : tie.Need-loop-holds Inv-loop μ-loop
 loop-holds c = (omega arith, filled-none 16 _ _ (search needs))
@@ -21,8 +21,8 @@ loop-holds c = (omega arith, filled-none 16 _ _ (search needs))
 array-read-rest : tie.Need-array-read-rest Inv-loop μ-loop
 array-read-rest c = search needs
 
-shared-slice-read-rest : tie.Need-shared-slice-read-rest Inv-loop μ-loop
-shared-slice-read-rest c = search needs
+array-read-rest-2 : tie.Need-array-read-rest-2 Inv-loop μ-loop
+array-read-rest-2 c = search needs
 
 array-write-rest : tie.Need-array-write-rest Inv-loop μ-loop
 array-write-rest c = search needs
@@ -34,11 +34,11 @@ loop-less : tie.Need-loop-less Inv-loop μ-loop
 loop-less c = omega arith
 
 loop-again : tie.Need-loop-again Inv-loop μ-loop
-loop-again c = (omega arith, filled-more 16 _ _ _ _ (omega arith) refl (c .before .before .loop .inv .1))
+loop-again c = (omega arith, filled-more 16 _ _ _ _ (omega arith) refl (c .before .loop .inv .1))
 
 returns : tie.Need-returns Inv-loop μ-loop
 returns c =
-    let e : c .before .loop .i ≡ c .before .before .args .r = omega arith in
+    let e : c .before .loop .i ≡ 16 = omega arith in
     rw e at (c .before .loop .inv .1)
 
 pub left-over-spec : {M : Type 1} → statement M
@@ -49,7 +49,7 @@ left-over-spec =
     μ-loop
     loop-holds
     array-read-rest
-    shared-slice-read-rest
+    array-read-rest-2
     array-write-rest
     add-i
     loop-less

@@ -21,17 +21,17 @@ abbrev μ-loop : tie.MeasureT-loop
 μ-loop m b r low₀ p₀ s₀ low p s = 4 - s
 
 generator-requires : tie.Need-generator-requires Inv-loop μ-loop
-generator-requires c κs = omega arith
+generator-requires c κs = (search needs, omega arith)
 
 doubles-requires : tie.Need-doubles-requires Inv-loop μ-loop
 doubles-requires c κs =
     let g = c .before in
-    (refl, divisor-elements _ _ _ _ (one-word _ _ _ _ _ (g .before .pre .0) (search needs) (search needs) (g .generator .ensures)), zeros 8)
+    (refl, divisor-elements _ _ _ _ (one-word _ _ _ _ _ (g .before .pre .1) (search needs) (search needs) (g .generator .ensures)), zeros 8)
 
 loop-holds : tie.Need-loop-holds Inv-loop μ-loop
 loop-holds c =
     let g = c .before .before in
-    (omega arith, g .before .pre .1, rows-none _ _ _ _, rw (one-word _ _ _ _ _ (g .before .pre .0) (search needs) (search needs) (g .generator .ensures)) at (c .doubles .ensures))
+    (omega arith, g .before .pre .2, rows-none _ _ _ _, rw (one-word _ _ _ _ _ (g .before .pre .1) (search needs) (search needs) (g .generator .ensures)) at (c .doubles .ensures))
 
 mul-put : tie.Need-mul-put Inv-loop μ-loop
 mul-put c = search needs

@@ -30,7 +30,7 @@ doubles-requires c κs =
 loop-holds : tie.Need-loop-holds Inv-loop μ-loop
 loop-holds c =
     let g = c .before .before .before in
-    (omega arith, g .before .pre .1, g .before .pre .2, rows-none _ _ _ _, rw (g .generator .ensures) at (c .doubles .ensures))
+    (omega arith, g .before .pre .2, g .before .pre .3, rows-none _ _ _ _, rw (g .generator .ensures) at (c .doubles .ensures))
 
 mul-put : tie.Need-mul-put Inv-loop μ-loop
 mul-put c = search needs

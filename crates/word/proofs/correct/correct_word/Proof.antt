@@ -21,7 +21,7 @@ part-syndromes-end : tie.Need-part-syndromes-end
 part-syndromes-end c = omega (arith, limits _ (c .before .before .before .before .before .before .before .before .pre .0 .checked .setting) .high)
 
 syndromes-requires : tie.Need-syndromes-requires
-syndromes-requires c κs = search needs
+syndromes-requires c κs = limits _ (c .before .before .before .before .before .before .before .before .before .pre .0 .checked .setting) .start
 
 correct-errors-requires : tie.Need-correct-errors-requires
 correct-errors-requires c κs =

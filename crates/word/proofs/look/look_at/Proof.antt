@@ -31,7 +31,7 @@ part-check-symbols-end : tie.Need-part-check-symbols-end
 part-check-symbols-end c = omega (arith, c .before .before .before .before .before .before .pre .size)
 
 check-symbols-requires : tie.Need-check-symbols-requires
-check-symbols-requires c κs = limits _ (c .before .before .before .before .before .before .before .pre .setting) .high
+check-symbols-requires c κs = let k = limits _ (c .before .before .before .before .before .before .before .pre .setting) in (k .start, k .high)
 
 compared-requires : tie.Need-compared-requires
 compared-requires c κs =
