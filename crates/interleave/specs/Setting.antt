@@ -13,7 +13,7 @@ use Rattle.algebra.specs.Tests.{below}
 use Rattle.algebra.specs.Refusal.{need, need-yes, need-zero, first, first-none, first-zero, passes}
 use Rattle.rings.specs.Rings.{order, tri-size}
 use Rattle.rings.specs.Run.{RunFits, Ran, run, run-size, run-position}
-use Rattle.interleave.specs.Line.{period}
+use Rattle.interleave.specs.Line.{period, period-round}
 use Rattle.interleave.specs.declared.line.Line.{Line}
 
 -- I branches, unit M and n: each in its limits, I divides n, and M * I is at least n
@@ -139,4 +139,5 @@ run-fits l size f =
       unit = s .unit;
       place = f .allowed .position;
       exact = f .exact ∙ tri-size (l .branches) (l .unit);
+      round = period-round (l .branches) (l .unit) (s .branches .1);
     }
