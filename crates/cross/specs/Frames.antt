@@ -14,7 +14,7 @@ use Rattle.algebra.specs.Lists.{tabulate, length-tabulate, tabulated, tabulate-
 use Rattle.rings.specs.Rings.{tri, order, order-small, order-own}
 use Rattle.rings.specs.Delay.{Turns, Past, position, memory, answer, position-is, step-rule}
 use Rattle.rings.specs.Run.{RunFits, Ran, ran, run, run-from}
-use Rattle.interleave.specs.Line.{turns-by}
+use Rattle.interleave.specs.Line.{rounds, turns-by}
 use Rattle.cross.specs.Cross.{cycle, turned, due, stored}
 use Rattle.cross.specs.Positions.{positionAfter, rest-after, common, common-all}
 
@@ -34,7 +34,7 @@ pub record HeldBack (f : ℕ → List ℕ) (d D F i x : ℕ) : Type 0 where
 -- a memory of 1512 bytes may run
 pub line-fits : (p size : ℕ) → size ≡ 1512 → RunFits 28 4 (cycle * 28) (p % cycle * 28) size
 unfolding tri
-line-fits p size e = record { branches = (lit< tt, lit≤ tt); unit = (lit< tt, lit≤ tt); place = omega arith; exact = e }
+line-fits p size e = record { branches = (lit< tt, lit≤ tt); unit = (lit< tt, lit≤ tt); place = omega arith; exact = e; round = λ k h u. rounds 28 4 common k (common-all k h u) }
 
 -- what a run over a frame of 28 bytes gives
 pub frame-ran : (back : Bool) (p : ℕ) (m bytes out left : List ℕ) (r : ℕ) → length bytes ≡ 28

@@ -1,4 +1,4 @@
 -- Laws that the proofs of this crate lean on.
 mod Bounds
 mod Step
-mod Walk
+mod Rows

@@ -1,4 +1,5 @@
 pub mod Block
+pub mod Rows
 pub mod Slots
 pub mod Line
 pub mod Setting

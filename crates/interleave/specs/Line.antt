@@ -57,6 +57,10 @@ common-all I h (suc k) l u =
 
 -- ---- laws
 
+-- a ring of k units comes round in k * M * I steps, which divide the positions c * M * I where k divides c
+pub rounds : (I M c k : ℕ) → k ∣ c → k * M * I ∣ c * M * I
+rounds I M c k d = mul-dvd-mul-right (k * M) (mul-dvd-mul-right k d M) I
+
 -- any order of the rings, with a period that every ring divides
 pub turns-by : (I M c : ℕ) (units : ℕ → ℕ) → 0 < I → 0 < M → 0 < c → ((k : ℕ) → 0 < k → k < I → k ∣ c)
     → ((j : ℕ) → j < I → units j < I) → ((i j : ℕ) → i < I → j < I → units i ≡ units j → i ≡ j) → Turns units I M (c * M * I)
@@ -67,8 +71,12 @@ turns-by I M c units i m h d small own = record {
   small = small;
   own = own;
   each = dvd-mul-left I (c * M);
-  whole = λ j u k. mul-dvd-mul-right (units j * M) (mul-dvd-mul-right (units j) (d (units j) k (small j u)) M) I;
+  whole = λ j u k. rounds I M c (units j) (d (units j) k (small j u));
 }
+
+pub period-round : (I M : ℕ) → I ≤ 16 → (k : ℕ) → 0 < k → k < I → k * M * I ∣ period I M
+unfolding period
+period-round I M h k l u = rounds I M (common I) k (common-all I (omega arith) k l u)
 
 delays-add : (a b c M I : ℕ) → a + b ≡ c → a * M * I + b * M * I ≡ c * M * I
 delays-add a b c M I e = sym (add-mul (a * M) (b * M) I) ∙ ap (λ (z : ℕ). z * I) (sym (add-mul a b M) ∙ ap (λ (z : ℕ). z * M) e)

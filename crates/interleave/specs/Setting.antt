@@ -4,7 +4,7 @@ use mathlib.Core.Path.{_≡_, refl, sym, _∙_}
 use mathlib.Core.Bool.{Bool}
 use mathlib.Core.Logic.{Dec·and}
 use mathlib.Core.List.{List}
-use Prim.Native.Nat.{ℕ, _+_, _-_, _*_, _/_, _%_, _≤_, _<_}
+use Prim.Native.Nat.{ℕ, _-_, _*_, _/_, _%_, _≤_, _<_}
 use native.Mathlib.Decide.{ℕ-discrete, decLe, decLt, map-dec}
 use native.Mathlib.Omega.{arith}
 use lib.Dec.{T}
@@ -13,7 +13,7 @@ use Rattle.algebra.specs.Tests.{below}
 use Rattle.algebra.specs.Refusal.{need, need-yes, need-zero, first, first-none, first-zero, passes}
 use Rattle.rings.specs.Rings.{order, tri-size}
 use Rattle.rings.specs.Run.{RunFits, Ran, run, run-size, run-position}
-use Rattle.interleave.specs.Line.{period}
+use Rattle.interleave.specs.Line.{period, period-round}
 use Rattle.interleave.specs.declared.line.Line.{Line}
 
 -- I branches, unit M and n: each in its limits, I divides n, and M * I is at least n
@@ -139,4 +139,5 @@ run-fits l size f =
       unit = s .unit;
       place = f .allowed .position;
       exact = f .exact ∙ tri-size (l .branches) (l .unit);
+      round = period-round (l .branches) (l .unit) (s .branches .1);
     }

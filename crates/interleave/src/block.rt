@@ -1,8 +1,9 @@
 // The block interleaver: words go in by columns and slots are sent by rows, so that a run of damage falls on many words.
 ghost use mathlib.Core.Path.{_≡_};
-ghost use Prim.Native.Nat.{_*_, _<_};
+ghost use Prim.Native.Nat.{_+_, _*_, _≤_, _<_};
 ghost use lib.ListN.{length};
 ghost use Rattle.interleave.specs.Block.{blockRefusal, transposed, Spread, Gather};
+ghost use Rattle.interleave.specs.Rows.{RowsMoved};
 
 // `depth` words of n bytes, end to end, go to their slots: byte i of word w to slot i * depth + w.
 // Answers 0; or 1 for depth or n outside the limits, 2 for a buffer that is not of depth * n bytes, and the slots stay as they were.
@@ -54,24 +55,48 @@ fn block_refusal(depth: usize, n: usize, source: usize, target: usize) -> u8
     0
 }
 
-// m rows of n bytes become n rows of m. Counters take the place of a division for each byte.
+// m rows of n bytes become n rows of m, four source rows at a time: each pass over the target then writes four bytes that lie together.
 fn transpose(m: usize, n: usize, source: &[u8], target: &mut [u8])
     requires { ⌜ (0 < m) × (length (now source) ≡ m * n) × (length (now target) ≡ n * m) ⌝ }
     ensures { λ _. ⌜ now (target .exit) ≡ transposed m n (now (source .entry)) ⌝ }
 {
     let mut row = 0;
-    let mut column = 0;
-    let mut from = 0;
-    let mut s = 0;
-    while s < target.len() {
-        target[s] = source[from];
-        s += 1;
-        column += 1;
-        from += n;
-        if column == m {
-            column = 0;
+    while row < m {
+        if m - row < 4 {
+            move_row(m, n, row, source, target);
             row += 1;
-            from = row;
+        } else {
+            move_four_rows(m, n, row, source, target);
+            row += 4;
         }
+    }
+}
+
+// The four rows from `row` on go to their columns; those before it stand in theirs already.
+fn move_four_rows(m: usize, n: usize, row: usize, source: &[u8], target: &mut [u8])
+    requires { ⌜ (row + 4 ≤ m) × (length (now source) ≡ m * n) × RowsMoved m n row (now source) (now target) ⌝ }
+    ensures { λ _. ⌜ RowsMoved m n (row + 4) (now (source .entry)) (now (target .exit)) ⌝ }
+{
+    let mut i = 0;
+    while i < n {
+        let from = row * n + i;
+        let to = i * m + row;
+        target[to] = source[from];
+        target[to + 1] = source[from + n];
+        target[to + 2] = source[from + 2 * n];
+        target[to + 3] = source[from + 3 * n];
+        i += 1;
+    }
+}
+
+// One row goes to its column, where fewer than four are left.
+fn move_row(m: usize, n: usize, row: usize, source: &[u8], target: &mut [u8])
+    requires { ⌜ (row + 1 ≤ m) × (length (now source) ≡ m * n) × RowsMoved m n row (now source) (now target) ⌝ }
+    ensures { λ _. ⌜ RowsMoved m n (row + 1) (now (source .entry)) (now (target .exit)) ⌝ }
+{
+    let mut i = 0;
+    while i < n {
+        target[i * m + row] = source[row * n + i];
+        i += 1;
     }
 }

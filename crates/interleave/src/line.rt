@@ -2,9 +2,10 @@
 ghost use mathlib.Core.Path.{_≡_};
 ghost use Prim.Native.Nat.{_≤_};
 ghost use lib.ListN.{length};
-ghost use Rattle.rings.specs.Run.{ran};
+ghost use Rattle.rings.specs.Rings.{order};
+ghost use Rattle.rings.specs.Run.{RunFits, ran, run};
 ghost use Rattle.interleave.specs.Line.{common, period};
-ghost use Rattle.interleave.specs.Setting.{Fine, lineRefusal, receiverRefusal, lineRun};
+ghost use Rattle.interleave.specs.Setting.{lineRefusal, receiverRefusal};
 use rings::run;
 
 // A line's setting and its position, the number of steps so far modulo the line's period. Sender and receiver have one each.
@@ -36,20 +37,26 @@ pub struct Received {
     pub line: Line,
 }
 
-// The least number that each of 1 to branches - 1 divides. Arms, and no table: a table would be laid out anew at each call.
+// The least number that each of 1 to branches - 1 divides. Arms, and no table: a table would be laid out anew at each call. Each number has
+// its own arm, so that the compiler makes one load of them all.
 fn common(branches: usize) -> usize
     ensures { λ r. ⌜ r ≡ common branches ⌝ }
 {
     match branches {
-        0 | 1 | 2 => return 1,
+        0 => return 1,
+        1 => return 1,
+        2 => return 1,
         3 => return 2,
         4 => return 6,
         5 => return 12,
-        6 | 7 => return 60,
+        6 => return 60,
+        7 => return 60,
         8 => return 420,
         9 => return 840,
-        10 | 11 => return 2520,
-        12 | 13 => return 27720,
+        10 => return 2520,
+        11 => return 2520,
+        12 => return 27720,
+        13 => return 27720,
         _ => return 360360,
     }
 }
@@ -62,19 +69,25 @@ pub fn period(branches: usize, unit: usize) -> usize
     common(branches) * unit * branches
 }
 
-// A step for each of the bytes, in order, from the line's position; answers the position after them.
-pub fn run_steps(line: Line, back: bool, memory: &mut [u8], bytes: &mut [u8]) -> usize
-    requires { ⌜ Fine line (length (now memory)) ⌝ }
-    ensures { λ r. ⌜ ran (now (bytes .exit)) (now (memory .exit)) r ≡ lineRun back line (now (memory .entry)) (now (bytes .entry)) ⌝ }
+// A step for each of the bytes, in order, from a line's position; answers the position after them. The line's numbers go in one by one, for a
+// line as a whole would be copied through memory.
+pub fn run_steps(
+    branches: usize,
+    unit: usize,
+    position: usize,
+    back: bool,
+    memory: &mut [u8],
+    bytes: &mut [u8],
+) -> usize
+    requires { ⌜ (branches ≤ 16) × RunFits branches unit (period branches unit) position (length (now memory)) ⌝ }
+    ensures { λ r. ⌜ ran (now (bytes .exit)) (now (memory .exit)) r ≡ run (order back branches) branches unit (period branches unit) position (now (memory .entry)) (now (bytes .entry)) ⌝ }
 {
-    let branches = line.branches;
-    let unit = line.unit;
     run(
         branches,
         unit,
         back,
         period(branches, unit),
-        line.position,
+        position,
         memory,
         bytes,
     )

@@ -77,9 +77,12 @@ pub fn receive_run(
     if r != 0 {
         return Ready { answer: r, line };
     }
+    let branches = line.branches;
+    let unit = line.unit;
+    let position = line.position;
     let mut later = line;
-    later.position = run_steps(line, true, memory, bytes);
-    run_steps(line, true, held, marks);
+    later.position = run_steps(branches, unit, position, true, memory, bytes);
+    run_steps(branches, unit, position, true, held, marks);
     Ready {
         answer: 0,
         line: later,

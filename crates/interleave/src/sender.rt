@@ -56,8 +56,11 @@ pub fn send_run(line: Line, memory: &mut [u8], bytes: &mut [u8]) -> Ready
     if r != 0 {
         return Ready { answer: r, line };
     }
+    let branches = line.branches;
+    let unit = line.unit;
+    let position = line.position;
     let mut later = line;
-    later.position = run_steps(line, false, memory, bytes);
+    later.position = run_steps(branches, unit, position, false, memory, bytes);
     Ready {
         answer: 0,
         line: later,

@@ -1,2 +1,6 @@
 mod Cells
+mod Steps
 mod Passing
+mod Swaps
+mod Walking
+mod Branches

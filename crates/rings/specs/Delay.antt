@@ -173,11 +173,11 @@ module _ (units : ℕ → ℕ) (I M P : ℕ) (t : Turns units I M P) where
   cell-at : (s : ℕ) → 0 < at s → ring M (at s) (s % P / I) ≡ cell s
   cell-at s h = ring-period M (at s) I P s (t .branches) (t .whole (s % I) (mod-lt s (t .branches)) h)
 
-  kept-at : (m : List ℕ) (s b : ℕ) → lineKept units I M m (position P s) b ≡ ifZero (at s) m (set m (cell s) b)
+  pub kept-at : (m : List ℕ) (s b : ℕ) → lineKept units I M m (position P s) b ≡ ifZero (at s) m (set m (cell s) b)
   unfolding lineKept
   kept-at m s b = rw (position-is P s (t .period), mod-mod-of-dvd I s (t .each)) (same-unless-zero (at s) m _ _ λ h. ap (λ (z : ℕ). set m z b) (cell-at s h))
 
-  out-at : (m : List ℕ) (s b : ℕ) → lineOut units I M m (position P s) b ≡ ifZero (at s) b (getD m (cell s) 0)
+  pub out-at : (m : List ℕ) (s b : ℕ) → lineOut units I M m (position P s) b ≡ ifZero (at s) b (getD m (cell s) 0)
   unfolding lineOut
   out-at m s b = rw (position-is P s (t .period), mod-mod-of-dvd I s (t .each)) (same-unless-zero (at s) b _ _ λ h. ap (λ (z : ℕ). getD m z 0) (cell-at s h))
 

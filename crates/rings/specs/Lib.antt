@@ -1,3 +1,4 @@
 pub mod Rings
 pub mod Delay
 pub mod Run
+pub mod Branch

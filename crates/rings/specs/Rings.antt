@@ -5,7 +5,7 @@ use mathlib.Core.Logic.{_≢_}
 use mathlib.Core.Bool.{Bool, true, false}
 use mathlib.Core.List.{List}
 use Prim.Native.Nat.{ℕ, zero, suc, _+_, _-_, _*_, _/_, _%_, _≤_, _<_, _∣_}
-use native.Mathlib.Nat.{not-suc-le-zero, mul-le-mul-right, mul-le-mul-left, suc-mul, mul-suc, add-mul, mul-add, mul-comm, mul-assoc, mul-left-comm, zero-mul, mod-lt, add-mod-right, div-add-mod, mul-div-cancel', mul-add-div, mul-add-mod-self-left}
+use native.Mathlib.Nat.{not-suc-le-zero, mul-le-mul-right, mul-le-mul-left, suc-mul, mul-suc, add-mul, mul-add, mul-comm, mul-assoc, mul-left-comm, zero-mul, mod-lt, mod-add-mod, add-mod-right, div-add-mod, mul-div-cancel', mul-add-div, mul-add-mod-self-left}
 use native.Mathlib.Decide.{ℕ-discrete, decLt}
 use native.Mathlib.Omega.{arith}
 use lib.ListN.{getD, set}
@@ -32,17 +32,12 @@ ringOut M k q m b = ifZero k b (getD m (ring M k q) 0)
 abbrev pub ringKept : ℕ → ℕ → ℕ → List ℕ → ℕ → List ℕ
 ringKept M k q m b = ifZero k m (set m (ring M k q) b)
 
--- what `turn` asks of its numbers: they are small, and the cell is in the memory
-pub record RingFits (M k q size : ℕ) : Type 0 where
+-- what `walk` asks of a ring: its numbers are small, and its cells are in the memory
+pub record RingFits (M k size : ℕ) : Type 0 where
   pub some : 0 < M
   pub unit : M ≤ 128
   pub units : k ≤ 32
-  pub inside : 0 < k → ring M k q < size
-
--- and what it promises
-pub record RingTurned (M k q : ℕ) (m : List ℕ) (b r : ℕ) (left : List ℕ) : Type 0 where
-  pub out : r ≡ ringOut M k q m b
-  pub memory : left ≡ ringKept M k q m b
+  pub inside : (q : ℕ) → 0 < k → ring M k q < size
 
 -- ---- laws
 
@@ -101,7 +96,7 @@ module _ (M : ℕ) (unit : 0 < M) where
   ]
 
 -- two numbers less than N apart have different rests
-rest-apart : (N q r : ℕ) → q < r → r < q + N → q % N ≢ r % N
+pub rest-apart : (N q r : ℕ) → q < r → r < q + N → q % N ≢ r % N
 rest-apart N q r h l e = elim (decLt (q / N) (r / N)) [
   | yes u ↦ omega (arith, mul-le-mul-left N u, mul-suc N (q / N), div-add-mod q N, div-add-mod r N)
   | no u ↦ let v : r / N ≤ q / N = omega arith in omega (arith, mul-le-mul-left N v, div-add-mod q N, div-add-mod r N)
@@ -115,6 +110,17 @@ ring-turns M k q r h l e = rest-apart (k * M) q r h l (omega arith)
 pub ring-again : (M k q : ℕ) → ring M k (q + k * M) ≡ ring M k q
 unfolding ring
 ring-again M k q = rw add-mod-right
+
+-- the cells of a ring lie together, and after the last comes the first
+pub ring-within : (M k q : ℕ) → 0 < M → 0 < k → (tri k * M ≤ ring M k q) × (ring M k q < tri k * M + k * M)
+unfolding ring
+ring-within M k q h u = (omega arith, omega (arith, mod-lt q (pos-mul k M u h)))
+
+pub ring-next : (M k q : ℕ) → ring M k (q + 1) ≡ tri k * M + (ring M k q + 1 - tri k * M) % (k * M)
+unfolding ring
+ring-next M k q =
+    let e : tri k * M + q % (k * M) + 1 - tri k * M ≡ q % (k * M) + 1 = omega arith in
+    rw (e, mod-add-mod q (k * M) 1)
 
 regroup : (N I c y : ℕ) → N * I * c * y ≡ I * (N * (c * y))
 regroup N I c y = simp (mul-assoc, mul-left-comm)

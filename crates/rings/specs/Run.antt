@@ -3,7 +3,7 @@
 -- Assumes nothing.
 use mathlib.Core.Path.{_≡_, refl, sym, ap, _∙_}
 use mathlib.Core.List.{List, [], _∷_, _++_}
-use Prim.Native.Nat.{ℕ, zero, suc, _+_, _*_, _%_, _≤_, _<_}
+use Prim.Native.Nat.{ℕ, zero, suc, _+_, _*_, _%_, _≤_, _<_, _∣_}
 use native.Mathlib.Nat.{add-zero, zero-add, add-suc, suc-add, mod-lt}
 use native.Mathlib.Omega.{arith}
 use lib.Dec.{T, ltb, ltb→lt}
@@ -13,12 +13,14 @@ use Rattle.algebra.specs.Lists.{tabulate, tabulated}
 use Rattle.rings.specs.Rings.{tri, RingFits, ring-end}
 use Rattle.rings.specs.Delay.{lineOut, lineKept, position, memory, answer, kept-length, kept-below}
 
--- what `run` asks of its numbers: they are small, the position is one of the P, and the memory is as long as all its rings
+-- what `run` asks of its numbers: they are small, the position is one of the P, the memory is as long as all its rings, and every ring comes
+-- round in P steps
 pub record RunFits (I M P p size : ℕ) : Type 0 where
   pub branches : (0 < I) × (I ≤ 32)
   pub unit : (0 < M) × (M ≤ 128)
   pub place : p < P
   pub exact : size ≡ tri I * M
+  pub round : (k : ℕ) → 0 < k → k < I → k * M * I ∣ P
 
 -- what a run gives: the bytes that left, the memory, and the position after it
 pub record Ran : Type 0 where
@@ -30,12 +32,12 @@ abbrev pub ran : List ℕ → List ℕ → ℕ → Ran
 ran out m p = record { out = out; memory = m; position = p }
 
 -- the ring of any branch fits the memory
-pub ring-fits : (I M P p size k q : ℕ) → RunFits I M P p size → k < I → RingFits M k q size
-ring-fits I M P p size k q f h = record {
+pub ring-fits : (I M P p size k : ℕ) → RunFits I M P p size → k < I → RingFits M k size
+ring-fits I M P p size k f h = record {
   some = f .unit .0;
   unit = f .unit .1;
   units = omega (arith, f .branches .1);
-  inside = λ u. omega (arith, f .exact, ring-end M (f .unit .0) k I q u h);
+  inside = λ q u. omega (arith, f .exact, ring-end M (f .unit .0) k I q u h);
 }
 
 shifted : (f : ℕ → ℕ) (s k : ℕ) → tabulate (suc k) (λ i. f (s + i)) ≡ f s ∷ tabulate k (λ i. f (suc s + i))

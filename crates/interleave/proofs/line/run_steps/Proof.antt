@@ -1,7 +1,6 @@
--- `run_steps` meets its contract: it is what `run` promises of a fine line.
+-- `run_steps` meets its contract: it is what `run` promises of as many positions as the line has.
 -- Assumes nothing.
 use borrow.Author.Needs.{needs}
-use Rattle.interleave.specs.Setting.{run-fits}
 use Rattle.interleave.proofs.line.run_steps.Statement.{statement}
 use Rattle.interleave.proofs.line.run_steps.Tie as tie
 
@@ -9,7 +8,7 @@ period-requires : tie.Need-period-requires
 period-requires c κs = search needs
 
 run-requires : tie.Need-run-requires
-run-requires c κs = rw (c .before .before .period .ensures) (run-fits _ _ (c .before .before .before .before .before .pre))
+run-requires c κs = rw (c .before .before .period .ensures) (c .before .before .before .before .before .pre .1)
 
 same-length : tie.Need-same-length
 same-length c = search needs

@@ -3,7 +3,7 @@
 use mathlib.Core.Path.{refl, sym, _∙_}
 use borrow.Author.Needs.{needs}
 use Rattle.algebra.specs.Refusal.{kept}
-use Rattle.interleave.specs.Setting.{receive-fine}
+use Rattle.interleave.specs.Setting.{receive-fine, run-fits}
 use Rattle.interleave.specs.Promises.{receiveRun}
 use Rattle.interleave.proofs.receiver.receive_run.Statement.{statement}
 use Rattle.interleave.proofs.receiver.receive_run.Tie as tie
@@ -24,13 +24,14 @@ returns c = record { outcome = rw (← c .before .receive-refusal .ensures) (kep
 run-steps-requires : tie.Need-run-steps-requires
 run-steps-requires c κs =
     let checked = c .before .before in
-    receive-fine _ _ _ _ _ (sym (checked .before .receive-refusal .ensures) ∙ checked .if1 .left) .receiver .line
+    let f = receive-fine _ _ _ _ _ (sym (checked .before .receive-refusal .ensures) ∙ checked .if1 .left) .receiver .line in
+    (f .allowed .setting .branches .1, run-fits _ _ f)
 
 run-steps-requires-2 : tie.Need-run-steps-requires-2
 run-steps-requires-2 c κs =
     let checked = c .before .before .before .before .before .before .before .before .before in
     let f = receive-fine _ _ _ _ _ (sym (checked .before .receive-refusal .ensures) ∙ checked .if1 .left) .receiver in
-    rw (← f .exact) at (f .line)
+    (f .line .allowed .setting .branches .1, run-fits _ _ (rw (← f .exact) at (f .line)))
 
 same-length-3 : tie.Need-same-length-3
 same-length-3 c = search needs

@@ -3,7 +3,7 @@
 use mathlib.Core.Path.{refl, sym, _∙_}
 use borrow.Author.Needs.{needs}
 use Rattle.algebra.specs.Refusal.{kept}
-use Rattle.interleave.specs.Setting.{line-fine}
+use Rattle.interleave.specs.Setting.{line-fine, run-fits}
 use Rattle.interleave.specs.Promises.{sendRun}
 use Rattle.interleave.proofs.sender.send_run.Statement.{statement}
 use Rattle.interleave.proofs.sender.send_run.Tie as tie
@@ -16,7 +16,10 @@ unfolding sendRun
 returns c = record { outcome = rw (← c .before .line-refusal .ensures) (kept _ _ _ (c .if1 .taken)) }
 
 run-steps-requires : tie.Need-run-steps-requires
-run-steps-requires c κs = let o = c .before .before in line-fine _ _ (sym (o .before .line-refusal .ensures) ∙ o .if1 .left)
+run-steps-requires c κs =
+    let checked = c .before .before in
+    let f = line-fine _ _ (sym (checked .before .line-refusal .ensures) ∙ checked .if1 .left) in
+    (f .allowed .setting .branches .1, run-fits _ _ f)
 
 same-length : tie.Need-same-length
 same-length c = search needs
