@@ -1,7 +1,7 @@
 -- The words of a received frame: one that is decoded, and the loop that decodes them into their parts of the area.
 -- Assumes nothing.
 use mathlib.Core.Path.{_≡_, refl, sym, ap, _∙_}
-use mathlib.Core.Bool.{true, false}
+use mathlib.Core.Bool.{Bool, true, false}
 use mathlib.Core.List.{List, []}
 use mathlib.Core.Option.{Option, some, none}
 use Prim.Native.Nat.{ℕ, zero, suc, _+_, _*_, _≤_, _<_}
@@ -10,10 +10,10 @@ use native.Mathlib.Decide.{decLt}
 use native.Mathlib.Omega.{arith}
 use borrow.Author.Tests.{lt-ltb, le-ltb}
 use borrow.Author.Count.{below-more}
-use lib.ListN.{length, getD, set, take, replicate, length-set}
-use lib.Seq.{getD-set-same, getD-set-other}
+use lib.ListN.{length, getD, set, take, replicate, length-set, length-replicate}
+use lib.Seq.{ext-getD, length-take-le, getD-take, getD-set-same, getD-set-other}
 use lib.Dec.{T, eqb, ltb}
-use Rattle.algebra.specs.Tests.{if_then_else_, below, first-none, first-is}
+use Rattle.algebra.specs.Tests.{at, if_then_else_, below, below-at, below-all, first-none, first-is}
 use Rattle.algebra.specs.Lists.{tabulate, tabulated, within, putPart, put-part-size, Written, written-none, written-same, written-more, written-all}
 use Rattle.word.specs.Setting.{messageSize, allowed-yes}
 use Rattle.word.specs.Answers.{numberOf, figuresOf, noFigures, figures}
@@ -22,7 +22,7 @@ use Rattle.word.specs.Refusals.{Checked}
 use Rattle.word.specs.Met.{part-found, part-lost}
 use Rattle.word.specs.declared.Figures.{Figures}
 use Rattle.word.specs.declared.Decoded.{Decoded}
-use Rattle.interleave.specs.Slots.{TakesWord, length-word, word-below}
+use Rattle.interleave.specs.Slots.{TakesWord, wordIn, length-word, word-below}
 use Rattle.frame.specs.Frame.{wordSetting, areaSize, slotCount, isNone, receivedWord, receivedMarks, correctedWord, messageOf, figuresAt, beyond, areaReceived, figuresReceived}
 use Rattle.frame.specs.Frame.Limits.{FrameAllowed}
 use Rattle.frame.specs.Checks.{ReceiveChecked}
@@ -35,6 +35,31 @@ use Rattle.frame.specs.declared.receiver.Words.{Words}
 -- a word's answer without its reason
 abbrev pub foundOf : Decoded → Found
 foundOf d = record { accepted = eqb (numberOf d) 0; figures = figuresOf d }
+
+-- a frame is called plain only where no mark is set
+pub record Plain (plain : Bool) (marks : List ℕ) : Type 0 where
+  pub none : plain ≡ true → T (below 1 marks)
+
+pub plain-if : (plain : Bool) (marks : List ℕ) → plain ≡ below 1 marks → Plain plain marks
+plain-if plain marks e = record { none = λ h. rw (← e, h) tt }
+
+-- then every word's marks are zeros
+module _ (J n w : ℕ) (marks : List ℕ) (none : T (below 1 marks)) where
+  none-at : (k i : ℕ) → at (replicate k 0) i ≡ 0
+  none-at zero i = refl
+  none-at (suc k) zero = refl
+  none-at (suc k) (suc i) = none-at k i
+
+  small : T (below 256 marks)
+  small = below-all 256 marks λ i l. omega (arith, below-at 1 marks none i (omega arith))
+
+  pub no-marks-taken : n ≤ 255 → TakesWord J n w marks (replicate 255 0)
+  no-marks-taken h =
+      let size : length {A = ℕ} (take n (replicate 255 0)) ≡ n = length-take-le n (replicate 255 0) (omega (arith, length-replicate {A = ℕ} 255 0)) in
+      let own : take n (replicate 255 0) ≡ wordIn J n marks w =
+      ext-getD 0 (take n (replicate 255 0)) (wordIn J n marks w) (size ∙ sym (length-word J n marks w)) (λ i l.
+      getD-take n (replicate 255 0) i 0 (omega (arith, size)) ∙ none-at 255 i ∙ sym (let z : at (wordIn J n marks w) i < 1 = below-at 1 (wordIn J n marks w) (word-below J n marks w 1 (omega arith) none) i (omega arith) in omega arith)) in
+      record { size = length-replicate {A = ℕ} 255 0; word = own; bytes = rw own (word-below J n marks w 256 (omega arith) small) }
 
 -- what has been checked before word w is decoded
 pub record WordGiven (f : Framing) (w : ℕ) (slots marks part : List ℕ) : Type 0 where
@@ -80,7 +105,11 @@ module _ (f : Framing) (w : ℕ) (slots marks part : List ℕ) (g : WordGiven f 
       let (x, y) = decodes-part-once p (part-lost (wordSetting f) word marked part (g .part-size) (checks small) e) in
       rw x (record { found = λ z. differ (sym z); lost = λ _. rw e })
 
-  -- the word and its marks, taken from their slots, with what the decoder says of them
+  -- the word and its marks, taken from their slots, have passed the word's checks
+  pub word-checked : (r s : List ℕ) → TakesWord (f .depth) (f .n) w slots r → TakesWord (f .depth) (f .n) w marks s → Checked (wordSetting f) (take (f .n) s) (take (f .n) r)
+  word-checked r s p q = rw (p .word, q .word) (checks (rw (p .word) at (p .bytes)))
+
+  -- and what the decoder says of them
   pub word-found : (r s : List ℕ) → TakesWord (f .depth) (f .n) w slots r → TakesWord (f .depth) (f .n) w marks s → (d : Decoded) (left : List ℕ)
       → DecodesPart (wordSetting f) (take (f .n) r) (take (f .n) s) part d left → WordFound f w slots marks (foundOf d) left
   word-found r s p q d left e = decides (rw (p .word) at (p .bytes)) d left (rw (p .word, q .word) at e) (correctedWord f slots marks w) refl

@@ -2,11 +2,13 @@
 // payload.
 ghost use mathlib.Core.Path.{_≡_};
 ghost use Prim.Native.Nat.{_≤_};
-ghost use lib.ListN.{length};
-ghost use Rattle.frame.specs.Frame.{receiveOutcome, refusedWith, settled, decodedFrame, receiveRefusal};
+ghost use lib.ListN.{length, replicate};
+ghost use Rattle.word.specs.Looking.{Tabled};
+ghost use Rattle.interleave.specs.Slots.{HasWord, TakesWord};
+ghost use Rattle.frame.specs.Frame.{wordSetting, receiveOutcome, refusedWith, settled, decodedFrame, receiveRefusal};
 ghost use Rattle.frame.specs.Promises.{Receives};
 ghost use Rattle.frame.specs.Checks.{ReceiveChecked};
-ghost use Rattle.frame.specs.Decoding.{foundOf, WordGiven, WordFound, Collected};
+ghost use Rattle.frame.specs.Decoding.{foundOf, Plain, WordGiven, WordFound, Collected};
 use crate::numbers::verdict_as;
 use crate::setting::Framing;
 use crate::setting::Received;
@@ -23,6 +25,9 @@ use word::Figures;
 use word::numbers::figures_of;
 use word::numbers::no_figures;
 use word::numbers::number_of;
+use word::tables::decode_part_by;
+use word::tables::no_table;
+use word::tables::prepare;
 
 // What one word was found to have; no figures where it is refused.
 pub struct Found {
@@ -46,27 +51,69 @@ fn without_reason(d: Decoded) -> Found
     }
 }
 
-// Decodes word w into its part of the area.
-fn receive_word(f: Framing, w: usize, slots: &[u8], marks: &[u8], part: &mut [u8]) -> Found
-    requires { ⌜ WordGiven f w (now slots) (now marks) (now part) ⌝ }
+// Room for a word's marks, none of them set. A call of its own keeps the array out of its callers' proofs.
+fn no_marks() -> [u8; 255]
+    ensures { λ r. ⌜ r ≡ replicate 255 0 ⌝ }
+{
+    [0; 255]
+}
+
+// The marks of word w. They are not gathered from their slots where the frame is plain, which is to say that no mark is set.
+fn marks_of(f: Framing, plain: bool, w: usize, marks: &[u8]) -> [u8; 255]
+    requires { ⌜ HasWord (f .depth) (f .n) w (length (now marks)) × Plain plain (now marks) ⌝ }
+    ensures { λ r. ⌜ TakesWord (f .depth) (f .n) w (now (marks .entry)) r ⌝ }
+{
+    if plain {
+        return no_marks();
+    }
+    take_word(f.depth, f.n, w, marks)
+}
+
+// Decodes word w into its part of the area, by the tables of all words.
+fn receive_word(
+    f: Framing,
+    low: &[u64; 128],
+    high: &[u64; 128],
+    plain: bool,
+    w: usize,
+    slots: &[u8],
+    marks: &[u8],
+    part: &mut [u8],
+) -> Found
+    requires { ⌜ WordGiven f w (now slots) (now marks) (now part) × Tabled (wordSetting f) (now low) (now high) × Plain plain (now marks) ⌝ }
     ensures { λ r. ⌜ WordFound f w (now (slots .entry)) (now (marks .entry)) r (now (part .exit)) ⌝ }
 {
     let word = take_word(f.depth, f.n, w, slots);
-    let marked = take_word(f.depth, f.n, w, marks);
-    let d = word::decode_part(words_of(f), &word[..f.n], &marked[..f.n], part);
+    let marked = marks_of(f, plain, w, marks);
+    let d = decode_part_by(
+        words_of(f),
+        low,
+        high,
+        &word[..f.n],
+        &marked[..f.n],
+        part,
+    );
     without_reason(d)
 }
 
 // Decodes each word into its part of the area, up to the first that is refused.
-fn receive_words(f: Framing, slots: &[u8], marks: &[u8], area: &mut [u8]) -> Words
-    requires { ⌜ ReceiveChecked f (now slots) (now marks) (now area) ⌝ }
+fn receive_words(
+    f: Framing,
+    low: &[u64; 128],
+    high: &[u64; 128],
+    plain: bool,
+    slots: &[u8],
+    marks: &[u8],
+    area: &mut [u8],
+) -> Words
+    requires { ⌜ ReceiveChecked f (now slots) (now marks) (now area) × Tabled (wordSetting f) (now low) (now high) × Plain plain (now marks) ⌝ }
     ensures { λ r. ⌜ Collected f (now (slots .entry)) (now (marks .entry)) r (now (area .exit)) ⌝ }
 {
     let k = f.n - f.r;
     let mut figures = [no_figures(); 16];
     for w in 0..f.depth {
         let a = w * k;
-        let found = receive_word(f, w, slots, marks, &mut area[a..a + k]);
+        let found = receive_word(f, low, high, plain, w, slots, marks, &mut area[a..a + k]);
         if !found.accepted {
             return Words {
                 accepted: w,
@@ -113,12 +160,16 @@ fn settle(whole: &mut [u8], figures: [Figures; 16]) -> Received
     }
 }
 
-// Decodes a frame that has passed the checks.
+// Decodes a frame that has passed the checks. Its words have one setting, so they have their tables in common.
 fn receive_checked(f: Framing, slots: &[u8], marks: &[u8], area: &mut [u8]) -> Received
     requires { ⌜ ReceiveChecked f (now slots) (now marks) (now area) ⌝ }
     ensures { λ r. ⌜ receiveOutcome r (now (area .exit)) ≡ decodedFrame f (now (slots .entry)) (now (marks .entry)) ⌝ }
 {
-    let words = receive_words(f, slots, marks, area);
+    let mut low = no_table();
+    let mut high = no_table();
+    prepare(words_of(f), &mut low, &mut high);
+    let plain = all_below(marks, 1);
+    let words = receive_words(f, &low, &high, plain, slots, marks, area);
     if words.accepted < f.depth {
         fill(area, 0);
         return refused(4, words.accepted as u8);

@@ -15,9 +15,16 @@ use crate::to_part;
 use buffers::join;
 use checks::register;
 
-// Makes the tables of a setting in two arrays, the second all zero.
+// Room for a table. A call of its own keeps the array out of its callers' proofs.
+pub fn no_table() -> [u64; 128]
+    ensures { λ r. ⌜ r ≡ replicate 128 0 ⌝ }
+{
+    [0; 128]
+}
+
+// Makes the tables of a setting in two such arrays.
 pub fn prepare(s: Setting, low: &mut [u64; 128], high: &mut [u64; 128])
-    requires { ⌜ (s .b ≤ 1) × (s .r ≤ 16) × (length (now low) ≡ 128) × (now high ≡ replicate 128 0) ⌝ }
+    requires { ⌜ (s .b ≤ 1) × (s .r ≤ 16) × (now low ≡ replicate 128 0) × (now high ≡ replicate 128 0) ⌝ }
     ensures { λ x. ⌜ Tabled s (now (low .exit)) (now (high .exit)) ⌝ }
 {
     register::prepare(s.m, s.b, s.r, low, high);

@@ -13,24 +13,24 @@ use Rattle.frame.proofs.receiver.receive_words.Statement.{statement}
 use Rattle.frame.proofs.receiver.receive_words.Tie as tie
 
 abbrev Inv-loop : tie.InvT-loop
-Inv-loop f slots marks area₀ k figures₀ w₀ w-end area figures w = Collecting f slots marks area₀ w area figures
+Inv-loop f low high plain slots marks area₀ k figures₀ w₀ w-end area figures w = Collecting f slots marks area₀ w area figures
 
 abbrev μ-loop : tie.MeasureT-loop
-μ-loop f slots marks area₀ k figures₀ w₀ w-end area figures w = f .depth - w
+μ-loop f low high plain slots marks area₀ k figures₀ w₀ w-end area figures w = f .depth - w
 
 sub-k : tie.Need-sub-k Inv-loop μ-loop
-sub-k c = omega (arith, c .before .before .before .before .pre .limits .words .room)
+sub-k c = omega (arith, c .before .before .before .before .pre .0 .limits .words .room)
 
 no-figures-requires : tie.Need-no-figures-requires Inv-loop μ-loop
 no-figures-requires c κs = search needs
 
 loop-holds : tie.Need-loop-holds Inv-loop μ-loop
-loop-holds c = rw (c .no-figures .ensures) (collecting-none _ _ _ _ (c .before .before .before .before .before .pre .area-size))
+loop-holds c = rw (c .no-figures .ensures) (collecting-none _ _ _ _ (c .before .before .before .before .before .pre .0 .area-size))
 
 mul-a : tie.Need-mul-a Inv-loop μ-loop
 mul-a c =
     let loop = c .before in
-    let given = loop .before .before .before .before .before .before .pre in
+    let given = loop .before .before .before .before .before .before .pre .0 in
     let room = fits _ _ _ _ _ _ _ (loop .loop .inv) (c .loop-test .taken) in
     let size = same _ _ _ _ _ _ _ (loop .loop .inv) in
     omega (arith, area-few _ (given .limits), given .area-size)
@@ -38,7 +38,7 @@ mul-a c =
 add-receive-word : tie.Need-add-receive-word Inv-loop μ-loop
 add-receive-word c =
     let loop = c .before in
-    let given = loop .before .before .before .before .before .before .pre in
+    let given = loop .before .before .before .before .before .before .pre .0 in
     let room = fits _ _ _ _ _ _ _ (loop .loop .inv) (c .loop-test .taken) in
     let size = same _ _ _ _ _ _ _ (loop .loop .inv) in
     omega (arith, area-few _ (given .limits), given .area-size)
@@ -55,16 +55,17 @@ part-receive-word-end c = fits _ _ _ _ _ _ _ (c .before .loop .inv) (c .loop-tes
 receive-word-requires : tie.Need-receive-word-requires Inv-loop μ-loop
 receive-word-requires c κs =
     let loop = c .before .before in
-    let given = loop .before .before .before .before .before .before .pre in
+    let given = loop .before .before .before .before .before .before .pre .0 in
     let room = fits _ _ _ _ _ _ _ (loop .loop .inv) (c .before .loop-test .taken) in
-    record {
+    let pre = loop .before .before .before .before .before .before .pre in
+    (record {
       limits = given .limits;
       turn = c .before .loop-test .taken;
       slots-size = given .slots-size;
       marks-size = given .marks-size;
       marks-small = given .marks-small;
       part-size = simp (length-take, length-drop) (omega arith);
-    }
+    }, pre .1, pre .2)
 
 same-length : tie.Need-same-length Inv-loop μ-loop
 same-length c =
@@ -72,10 +73,10 @@ same-length c =
     let loop = found .before .before .before .loop in
     let f = found .before .before .before .before .before .before .before .before .before .args .f in
     let a : ℕ = loop .w * (f .n - f .r) in
-    let kept : length (found .receive-word .last .1 .1 .1 .1 .0) ≡ length (take (a + (f .n - f .r) - a) (drop a (loop .area))) = search needs in
+    let kept : length (found .receive-word .last .1 .1 .1 .1 .1 .1 .1 .0) ≡ length (take (a + (f .n - f .r) - a) (drop a (loop .area))) = search needs in
     let taken = found .before .before .loop-test .taken in
     let room = fits _ _ _ _ _ _ _ (loop .inv) taken in
-    put-size _ _ _ _ _ _ _ (loop .inv) taken (found .receive-word .last .1 .1 .1 .1 .0) (kept ∙ simp (length-take, length-drop) (omega arith))
+    put-size _ _ _ _ _ _ _ (loop .inv) taken (found .receive-word .last .1 .1 .1 .1 .1 .1 .1 .0) (kept ∙ simp (length-take, length-drop) (omega arith))
 
 returns : tie.Need-returns Inv-loop μ-loop
 returns c =
@@ -86,17 +87,17 @@ returns c =
 mul-figures : tie.Need-mul-figures Inv-loop μ-loop
 mul-figures c =
     let loop = c .before .before .before .before .before .before .before .before in
-    omega (arith, loop .before .before .before .before .before .before .pre .limits .few)
+    omega (arith, loop .before .before .before .before .before .before .pre .0 .limits .few)
 
 array-set-from-figures : tie.Need-array-set-from-figures Inv-loop μ-loop
 array-set-from-figures c =
     let loop = c .before .before .before .before .before .before .before .before in
-    omega (arith, loop .before .before .before .before .before .before .pre .limits .few)
+    omega (arith, loop .before .before .before .before .before .before .pre .0 .limits .few)
 
 add-w : tie.Need-add-w Inv-loop μ-loop
 add-w c =
     let loop = c .before .before .before .before .before .before .before .before in
-    omega (arith, loop .before .before .before .before .before .before .pre .limits .few)
+    omega (arith, loop .before .before .before .before .before .before .pre .0 .limits .few)
 
 loop-less : tie.Need-loop-less Inv-loop μ-loop
 loop-less c = omega arith
@@ -108,17 +109,17 @@ loop-again c =
     let start = found .before .before .before .before .before .before .before .before .before in
     let f = start .args .f in
     let a : ℕ = loop .w * (f .n - f .r) in
-    let kept : length (found .receive-word .last .1 .1 .1 .1 .0) ≡ length (take (a + (f .n - f .r) - a) (drop a (loop .area))) = search needs in
+    let kept : length (found .receive-word .last .1 .1 .1 .1 .1 .1 .1 .0) ≡ length (take (a + (f .n - f .r) - a) (drop a (loop .area))) = search needs in
     let taken = found .before .before .loop-test .taken in
     let room = fits _ _ _ _ _ _ _ (loop .inv) taken in
-    let size : length (found .receive-word .last .1 .1 .1 .1 .0) ≡ f .n - f .r = kept ∙ simp (length-take, length-drop) (omega arith) in
-    collecting-more _ _ _ _ _ _ _ (loop .inv) (start .pre .limits .few) taken _ _ size (not-false _ (c .before .if1 .left)) (found .receive-word .ensures)
+    let size : length (found .receive-word .last .1 .1 .1 .1 .1 .1 .1 .0) ≡ f .n - f .r = kept ∙ simp (length-take, length-drop) (omega arith) in
+    collecting-more _ _ _ _ _ _ _ (loop .inv) (start .pre .0 .limits .few) taken _ _ size (not-false _ (c .before .if1 .left)) (found .receive-word .ensures)
 
 same-length-2 : tie.Need-same-length-2 Inv-loop μ-loop
 same-length-2 c = same _ _ _ _ _ _ _ (c .before .loop .inv)
 
 returns-2 : tie.Need-returns-2 Inv-loop μ-loop
-returns-2 c = collected-all _ _ _ _ _ _ _ (c .before .loop .inv) (omega arith) (c .before .before .before .before .before .before .before .pre .limits .few)
+returns-2 c = collected-all _ _ _ _ _ _ _ (c .before .loop .inv) (omega arith) (c .before .before .before .before .before .before .before .pre .0 .limits .few)
 
 pub receive-words-spec : {M : Type 1} → statement M
 receive-words-spec =
