@@ -57,15 +57,19 @@ module _ (f : Framing) (payload : List ℕ) (sequence : ℕ) where
         let entries : filled ≡ tabulate k (areaByte area (w * k)) = c .entries ∙ ap (λ (z : ℕ). tabulate z (areaByte area (w * k))) e in
         (entries ∙ part-entries k w area (omega (arith, within w (f .depth) k l)), ap length entries ∙ length-tabulate _ _)
 
+    -- the filled message is one that the word's encoder takes
+    pub sent-checked : FrameAllowed f → length payload + 4 ≤ areaSize f → w < f .depth → (message word slots : List ℕ) → WordsSent f payload sequence w message word slots
+        → (filled : List ℕ) → Copied (length message) (areaByte area (w * k)) filled → MessageChecked (wordSetting f) filled word
+    sent-checked a fits l message word slots s filled c =
+        record { setting = rw (← allowed-yes (wordSetting f) (a .words)) tt; size = own-part fits l (length message) (s .message-size) filled c .1; word-size = s .word-size; small = c .small }
+
     pub sent-more : FrameAllowed f → length payload + 4 ≤ areaSize f → w < f .depth → (message word slots : List ℕ) → WordsSent f payload sequence w message word slots
         → (filled : List ℕ) → Copied (length message) (areaByte area (w * k)) filled
-        → (d : Encoded) (made : List ℕ) → length made ≡ f .n → Encodes (wordSetting f) filled word d made
+        → (made : List ℕ) → length made ≡ f .n → made ≡ encoded (wordSetting f) filled
         → (left : List ℕ) → PutsWord (f .depth) w made slots left → WordsSent f payload sequence (w + 1) filled made left
     unfolding wordSent
-    sent-more a fits l message word slots s filled c d made n e left p =
+    sent-more a fits l message word slots s filled c made n is left p =
         let (own, full) = own-part fits l (length message) (s .message-size) filled c in
-        let checked : MessageChecked (wordSetting f) filled word = record { setting = rw (← allowed-yes (wordSetting f) (a .words)) tt; size = full; word-size = s .word-size; small = c .small } in
-        let is : made ≡ encoded (wordSetting f) filled = encodes-gives (wordSetting f) filled word checked e .1 in
         record {
           turn = omega arith;
           message-size = full;

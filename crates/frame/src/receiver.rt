@@ -85,14 +85,7 @@ fn receive_word(
 {
     let word = take_word(f.depth, f.n, w, slots);
     let marked = marks_of(f, plain, w, marks);
-    let d = decode_part_by(
-        words_of(f),
-        low,
-        high,
-        &word[..f.n],
-        &marked[..f.n],
-        part,
-    );
+    let d = decode_part_by(words_of(f), low, high, &word[..f.n], &marked[..f.n], part);
     without_reason(d)
 }
 

@@ -57,15 +57,18 @@ receive-word-requires c κs =
     let loop = c .before .before in
     let given = loop .before .before .before .before .before .before .pre .0 in
     let room = fits _ _ _ _ _ _ _ (loop .loop .inv) (c .before .loop-test .taken) in
-    let pre = loop .before .before .before .before .before .before .pre in
-    (record {
-      limits = given .limits;
-      turn = c .before .loop-test .taken;
-      slots-size = given .slots-size;
-      marks-size = given .marks-size;
-      marks-small = given .marks-small;
-      part-size = simp (length-take, length-drop) (omega arith);
-    }, pre .1, pre .2)
+    let pre = loop .before .before .before .before .before .before .pre in (
+      record {
+        limits = given .limits;
+        turn = c .before .loop-test .taken;
+        slots-size = given .slots-size;
+        marks-size = given .marks-size;
+        marks-small = given .marks-small;
+        part-size = simp (length-take, length-drop) (omega arith);
+      },
+      pre .1,
+      pre .2,
+    )
 
 same-length : tie.Need-same-length Inv-loop μ-loop
 same-length c =
