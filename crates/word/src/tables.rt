@@ -2,7 +2,7 @@
 // caller has made all checks. What these calls ask is in their `requires`.
 ghost use mathlib.Core.Path.{_≡_};
 ghost use Prim.Native.Nat.{_≤_};
-ghost use lib.ListN.{length, replicate};
+ghost use lib.ListN.{length};
 ghost use Rattle.word.specs.Setting.{messageSize};
 ghost use Rattle.word.specs.Code.{encoded};
 ghost use Rattle.word.specs.Refusals.{MessageChecked, Checked};
@@ -17,14 +17,14 @@ use checks::register;
 
 // Room for a table. A call of its own keeps the array out of its callers' proofs.
 pub fn no_table() -> [u64; 128]
-    ensures { λ r. ⌜ r ≡ replicate 128 0 ⌝ }
+    ensures { λ r. ⌜ length r ≡ 128 ⌝ }
 {
     [0; 128]
 }
 
 // Makes the tables of a setting in two such arrays.
 pub fn prepare(s: Setting, low: &mut [u64; 128], high: &mut [u64; 128])
-    requires { ⌜ (s .b ≤ 1) × (s .r ≤ 16) × (now low ≡ replicate 128 0) × (now high ≡ replicate 128 0) ⌝ }
+    requires { ⌜ (s .b ≤ 1) × (s .r ≤ 16) × (length (now low) ≡ 128) × (length (now high) ≡ 128) ⌝ }
     ensures { λ x. ⌜ Tabled s (now (low .exit)) (now (high .exit)) ⌝ }
 {
     register::prepare(s.m, s.b, s.r, low, high);

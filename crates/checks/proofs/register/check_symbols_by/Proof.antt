@@ -21,7 +21,7 @@ bytes-of-requires-2 : tie.Need-bytes-of-requires-2
 bytes-of-requires-2 c κs = search needs
 
 returns-2 : tie.Need-returns-2
-returns-2 c = rw (c .bytes-of2 .ensures) (by-long _ _ _ _ _ _ (c .before .remainder2 .ensures))
+returns-2 c = rw (c .bytes-of2 .ensures) (by-long _ _ _ _ _ _ (search needs) (c .before .remainder2 .ensures))
 
 pub check-symbols-by-spec : {M : Type 1} → statement M
 check-symbols-by-spec =

@@ -9,7 +9,7 @@ prepare-requires : tie.Need-prepare-requires
 prepare-requires c κs = search needs
 
 returns : tie.Need-returns
-returns c = let s = c .before .before in prepared-short _ _ _ _ _ (s .if1 .taken) (search needs) (c .prepare .ensures)
+returns c = let s = c .before .before in prepared-short _ _ _ _ _ (s .if1 .taken) (c .prepare .ensures)
 
 prepare-requires-2 : tie.Need-prepare-requires-2
 prepare-requires-2 c κs = search needs
