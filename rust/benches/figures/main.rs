@@ -6,6 +6,8 @@
 #![allow(clippy::incompatible_msrv)]
 
 mod codecs;
+mod framers;
+mod frames;
 #[cfg(feature = "libfec")]
 mod libfec;
 mod moves;
@@ -19,6 +21,8 @@ fn main() {
     let only: Option<String> = std::env::args().skip(1).find(|word| !word.starts_with("--"));
     let only = only.as_deref();
     words::table(only);
+    println!();
+    frames::table(only);
     println!();
     moves::table(only);
 }
