@@ -6,6 +6,8 @@
 #![allow(clippy::incompatible_msrv)]
 
 mod codecs;
+mod crossers;
+mod crossing;
 mod framers;
 mod frames;
 #[cfg(feature = "libfec")]
@@ -23,6 +25,8 @@ fn main() {
     words::table(only);
     println!();
     frames::table(only);
+    println!();
+    crossing::table(only);
     println!();
     moves::table(only);
 }
