@@ -36,6 +36,8 @@ fn send_rows(only: Option<&str>) {
     let mut run = Noise::new(81).bytes(BYTES);
     let send = |_, count| (0..count).for_each(|_| kept(sender.run(black_box(&mut run))));
     row(only, "line, send: I = 12, M = 17, a run of 3264", BYTES, Box::new(send));
+    let step = |_, count| (0..count).for_each(|_| kept(sender.step(black_box(7))));
+    row(only, "line, send: a step of one byte", 1, Box::new(step));
 }
 
 fn receive_rows(only: Option<&str>) {
@@ -44,6 +46,8 @@ fn receive_rows(only: Option<&str>) {
     let (mut run, mut marks) = (Noise::new(82).bytes(BYTES), vec![0; BYTES]);
     let receive = |_, count| (0..count).for_each(|_| kept(receiver.run(black_box(&mut run), &mut marks)));
     row(only, "line, receive: a run of 3264, with its marks", 2 * BYTES, Box::new(receive));
+    let step = |_, count| (0..count).for_each(|_| kept(receiver.step(black_box(7), black_box(0))));
+    row(only, "line, receive: a step of one byte, with its mark", 2, Box::new(step));
 }
 
 /// Keeps a call and its answer from being optimized away.
