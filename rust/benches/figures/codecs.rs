@@ -3,18 +3,26 @@
 use reference::code::Code;
 use yaxopetzo::word::Setting;
 
-use crate::traffic::Letter;
-
 /// A codec of one setting. What can be made ready beforehand has been.
 pub trait Codec {
     fn name(&self) -> &'static str;
     fn encode(&mut self, message: &[u8], word: &mut [u8]);
-    /// Corrects the word where it stands; false where it is refused.
-    fn decode(&mut self, word: &mut [u8], letter: &Letter) -> bool;
+    /// Corrects the word where it stands; false where it is refused. The marks come twice, as the library takes them and
+    /// as the list of places that libfec takes.
+    fn decode(&mut self, word: &mut [u8], marks: &[u8], marked: &[usize]) -> bool;
+}
+
+/// The codecs of a setting that are there to be measured: the library, plain Rust and, where it is linked, libfec.
+pub fn codecs(s: Setting) -> Option<Vec<Box<dyn Codec>>> {
+    let plain = Plain(Code::new(s.m, s.n, s.r, s.b)?);
+    #[cfg(feature = "libfec")]
+    return Some(vec![Box::new(Proved(s)), Box::new(plain), Box::new(crate::libfec::Fec::new(s)?)]);
+    #[cfg(not(feature = "libfec"))]
+    return Some(vec![Box::new(Proved(s)), Box::new(plain)]);
 }
 
 /// The library through its Rust face, with all its checks.
-pub struct Proved(pub Setting);
+struct Proved(Setting);
 
 impl Codec for Proved {
     fn name(&self) -> &'static str {
@@ -25,13 +33,13 @@ impl Codec for Proved {
         let _ = self.0.encode(message, word);
     }
 
-    fn decode(&mut self, word: &mut [u8], letter: &Letter) -> bool {
-        self.0.decode(word, &letter.marks).is_ok()
+    fn decode(&mut self, word: &mut [u8], marks: &[u8], _: &[usize]) -> bool {
+        self.0.decode(word, marks).is_ok()
     }
 }
 
 /// The reference of the tests.
-pub struct Plain(pub Code);
+struct Plain(Code);
 
 impl Codec for Plain {
     fn name(&self) -> &'static str {
@@ -42,7 +50,7 @@ impl Codec for Plain {
         self.0.encode(message, word);
     }
 
-    fn decode(&mut self, word: &mut [u8], letter: &Letter) -> bool {
-        self.0.decode(word, &letter.marks).is_some()
+    fn decode(&mut self, word: &mut [u8], marks: &[u8], _: &[usize]) -> bool {
+        self.0.decode(word, marks).is_some()
     }
 }

@@ -5,7 +5,6 @@ use std::ffi::{c_int, c_void};
 use yaxopetzo::word::Setting;
 
 use crate::codecs::Codec;
-use crate::traffic::Letter;
 
 #[link(name = "fec")]
 extern "C" {
@@ -24,6 +23,7 @@ extern "C" {
 
 pub struct Fec {
     codec: *mut c_void,
+    r: usize,
 }
 
 impl Fec {
@@ -32,7 +32,7 @@ impl Fec {
         let pad = 255usize.checked_sub(s.n)?;
         // Sound: numbers alone cross.
         let codec = unsafe { init_rs_char(8, 0x11d, s.b as c_int, 1, s.r as c_int, pad as c_int) };
-        (!codec.is_null()).then_some(Fec { codec })
+        (!codec.is_null()).then_some(Fec { codec, r: s.r })
     }
 }
 
@@ -55,13 +55,17 @@ impl Codec for Fec {
         unsafe { encode_rs_char(self.codec, start.as_mut_ptr(), checks.as_mut_ptr()) }
     }
 
-    fn decode(&mut self, word: &mut [u8], letter: &Letter) -> bool {
-        // libfec writes the places that it found over the list, so the list is longer than what is passed.
+    fn decode(&mut self, word: &mut [u8], _: &[u8], marked: &[usize]) -> bool {
+        // libfec does not look whether there are more marks than check symbols, and would write past its locator.
+        if marked.len() > self.r {
+            return false;
+        }
+        // It writes the places that it found over the list, so the list is longer than what is passed.
         let mut erasures = [0; 255];
-        for (slot, place) in erasures.iter_mut().zip(&letter.marked) {
+        for (slot, place) in erasures.iter_mut().zip(marked) {
             *slot = *place as c_int;
         }
-        let count = letter.marked.len() as c_int;
+        let count = marked.len() as c_int;
         // Sound: the word has the length of the codec's setting, and the list is as long as any.
         unsafe { decode_rs_char(self.codec, word.as_mut_ptr(), erasures.as_mut_ptr(), count) >= 0 }
     }

@@ -27,7 +27,7 @@ pub enum Kind {
     Refuse,
 }
 
-const fn damage(name: &'static str, marked: usize, wrong: usize, kind: Kind) -> Damage {
+pub const fn damage(name: &'static str, marked: usize, wrong: usize, kind: Kind) -> Damage {
     Damage { name, marked, wrong, kind }
 }
 
@@ -54,21 +54,21 @@ pub fn damages(r: usize) -> Vec<Damage> {
 }
 
 /// One word on its way: what was sent, what came, and what is distrusted.
-pub struct Letter {
-    pub sent: Vec<u8>,
-    pub received: Vec<u8>,
-    pub marks: Vec<u8>,
-    /// The marks as a list of places, which libfec takes.
-    #[cfg_attr(not(feature = "libfec"), expect(dead_code))]
-    pub marked: Vec<usize>,
+struct Letter {
+    sent: Vec<u8>,
+    received: Vec<u8>,
+    marks: Vec<u8>,
+    /// The marks as a list of places.
+    marked: Vec<usize>,
 }
 
 /// As many words as a branch predictor will not learn by heart, and few enough to stay in the first cache.
-const WORDS: usize = 48;
+pub const WORDS: usize = 48;
 
 pub struct Traffic {
     letters: Vec<Letter>,
-    message: usize,
+    /// The symbols of a message.
+    pub message: usize,
 }
 
 impl Traffic {
@@ -97,7 +97,7 @@ impl Traffic {
                 codec.encode(&letter.sent[..self.message], word);
             } else {
                 word.copy_from_slice(&letter.received);
-                black_box(codec.decode(word, letter));
+                black_box(codec.decode(word, &letter.marks, &letter.marked));
             }
             black_box(word);
         }
@@ -112,7 +112,7 @@ impl Traffic {
                     codec.encode(&letter.sent[..self.message], &mut word);
                     true
                 }
-                _ => codec.decode(&mut word, letter),
+                _ => codec.decode(&mut word, &letter.marks, &letter.marked),
             };
             assert_eq!(accepted, damage.kind != Kind::Refuse, "{}", codec.name());
             assert!(!accepted || word == letter.sent, "{}", codec.name());
