@@ -13,6 +13,7 @@ pub mod Met
 pub mod Means
 pub mod Distance
 pub mod Completion
+pub mod Encoding
 pub mod Looking
 pub mod Solution
 pub mod Correcting

@@ -7,7 +7,7 @@ use lib.ListN.{length}
 use Rattle.word.specs.Setting.{limits}
 use Rattle.word.specs.Refusals.{MessageChecked, message-checked}
 use Rattle.word.specs.Met.{encode-refused, encode-done}
-use Rattle.word.proofs.Encoding.{encoded-front}
+use Rattle.word.specs.Encoding.{encoded-front}
 use Rattle.word.proofs.encode.Statement.{statement}
 use Rattle.word.proofs.encode.Tie as tie
 

@@ -4,7 +4,7 @@ use mathlib.Core.Path.{_≡_, sym}
 use native.Mathlib.Omega.{arith}
 use lib.ListN.{length}
 use Rattle.word.specs.Setting.{limits}
-use Rattle.word.proofs.Encoding.{encoded-front}
+use Rattle.word.specs.Encoding.{encoded-front}
 use borrow.Author.Needs.{needs}
 use Rattle.word.proofs.tables.encode_by.Statement.{statement}
 use Rattle.word.proofs.tables.encode_by.Tie as tie
