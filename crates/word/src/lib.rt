@@ -149,7 +149,7 @@ fn in_place(s: Setting, seen: Look, word: &mut [u8], marks: &[u8]) -> Decoded
 }
 
 // The same with the message put into a part of its own, and the received word only read.
-pub fn to_part(s: Setting, seen: Look, received: &[u8], marks: &[u8], part: &mut [u8]) -> Decoded
+fn to_part(s: Setting, seen: Look, received: &[u8], marks: &[u8], part: &mut [u8]) -> Decoded
     requires { ⌜ Looked s (now marks) (now received) seen × (length (now part) ≡ messageSize s) ⌝ }
     ensures { λ d. ⌜ DecodesPart s (now (received .entry)) (now (marks .entry)) (now (part .entry)) d (now (part .exit)) ⌝ }
 {
