@@ -10,6 +10,7 @@ use Rattle.algebra.specs.Tests.{below}
 use Rattle.algebra.specs.Refusal.{need, ifZero, passes}
 use Rattle.word.specs.Setting.{allowed, messageSize}
 use Rattle.word.specs.Word.{errors, marked, bits}
+use Rattle.word.specs.Map.{changes, unchanged}
 use Rattle.word.specs.Code.{encoded, corrected}
 use Rattle.word.specs.declared.Setting.{Setting}
 use Rattle.word.specs.declared.Figures.{Figures}
@@ -51,17 +52,18 @@ pub record EncodeOutcome : Type 0 where
 abbrev pub encodeOutcome : Encoded → List ℕ → EncodeOutcome
 encodeOutcome d left = record { number = encodedNumber d; word = left }
 
--- what `decode` and `decode_part` answer, with the word or part that they leave
+-- what `decode` and `decode_part` answer, with the word or part and the map that they leave
 pub record DecodeOutcome : Type 0 where
   pub number : ℕ
   pub figures : Figures
   pub word : List ℕ
+  pub map : List ℕ
 
-abbrev pub decodeOutcome : Decoded → List ℕ → DecodeOutcome
-decodeOutcome d left = record { number = numberOf d; figures = figuresOf d; word = left }
+abbrev pub decodeOutcome : Decoded → (left map : List ℕ) → DecodeOutcome
+decodeOutcome d left map = record { number = numberOf d; figures = figuresOf d; word = left; map = map }
 
-abbrev pub refused : ℕ → List ℕ → DecodeOutcome
-refused k lent = record { number = k; figures = noFigures; word = lent }
+abbrev pub refused : ℕ → (lent map : List ℕ) → DecodeOutcome
+refused k lent map = record { number = k; figures = noFigures; word = lent; map = map }
 
 -- ---- encoding
 
@@ -84,31 +86,31 @@ encoding s message word =
 abbrev pub figures : List ℕ → List ℕ → List ℕ → Figures
 figures marks received c = record { errors = errors marks received c; marked = marked marks received; bits = bits received c }
 
--- a corrected word goes where `place` puts it; where there is none the answer is 4, and what was lent is left
+-- a corrected word goes where `place` puts it, with its map; where there is none the answer is 4, what was lent is left, and no place changed
 abbrev pub placed : (List ℕ → List ℕ) → List ℕ → List ℕ → List ℕ → Option (List ℕ) → DecodeOutcome
-placed place marks received lent none = refused 4 lent
-placed place marks received lent (some c) = record { number = 0; figures = figures marks received c; word = place c }
+placed place marks received lent none = refused 4 lent (unchanged received)
+placed place marks received lent (some c) = record { number = 0; figures = figures marks received c; word = place c; map = changes received c }
 
--- what a received word is answered where its checks give this number
-unfoldable pub answering : Setting → (received marks : List ℕ) → ℕ → (List ℕ → List ℕ) → (lent : List ℕ) → DecodeOutcome
-answering s received marks number place lent = ifZero number (placed place marks received lent (corrected s marks received)) (refused number lent)
+-- what a received word is answered where its checks give this number; a refusal by them leaves the map too
+unfoldable pub answering : Setting → (received marks : List ℕ) → ℕ → (List ℕ → List ℕ) → (lent map : List ℕ) → DecodeOutcome
+answering s received marks number place lent map = ifZero number (placed place marks received lent (corrected s marks received)) (refused number lent map)
 
--- both lengths are n; every symbol is below 2^m, and every mark 0 or 1
-unfoldable pub decodeRefusal : Setting → (received marks : List ℕ) → ℕ
-decodeRefusal s received marks =
+-- all three lengths are n; every symbol is below 2^m, and every mark 0 or 1
+unfoldable pub decodeRefusal : Setting → (received marks map : List ℕ) → ℕ
+decodeRefusal s received marks map =
     need (passes (allowed s)) 1
-    (need (ℕ-discrete (length received) (s .n)) 2 (need (ℕ-discrete (length marks) (s .n)) 2
-    (need (passes (below (2 ^ s .m) received)) 3 (need (passes (below 2 marks)) 3 0))))
+    (need (ℕ-discrete (length received) (s .n)) 2 (need (ℕ-discrete (length marks) (s .n)) 2 (need (ℕ-discrete (length map) (s .n)) 2
+    (need (passes (below (2 ^ s .m) received)) 3 (need (passes (below 2 marks)) 3 0)))))
 
 -- in place: the corrected word is written over the received one
-unfoldable pub decoding : Setting → (received marks : List ℕ) → DecodeOutcome
-decoding s received marks = answering s received marks (decodeRefusal s received marks) (λ c. c) received
+unfoldable pub decoding : Setting → (received marks map : List ℕ) → DecodeOutcome
+decoding s received marks map = answering s received marks (decodeRefusal s received marks map) (λ c. c) received map
 
 -- and the part's length is k
-unfoldable pub partRefusal : Setting → (received marks part : List ℕ) → ℕ
-partRefusal s received marks part =
-    need (passes (allowed s)) 1 (need (ℕ-discrete (length part) (messageSize s)) 2 (decodeRefusal s received marks))
+unfoldable pub partRefusal : Setting → (received marks part map : List ℕ) → ℕ
+partRefusal s received marks part map =
+    need (passes (allowed s)) 1 (need (ℕ-discrete (length part) (messageSize s)) 2 (decodeRefusal s received marks map))
 
 -- the received word only read: the corrected word's k message symbols are written to the lent part
-unfoldable pub decodingPart : Setting → (received marks part : List ℕ) → DecodeOutcome
-decodingPart s received marks part = answering s received marks (partRefusal s received marks part) (take (messageSize s)) part
+unfoldable pub decodingPart : Setting → (received marks part map : List ℕ) → DecodeOutcome
+decodingPart s received marks part map = answering s received marks (partRefusal s received marks part map) (take (messageSize s)) part map

@@ -17,6 +17,8 @@ use Rattle.field.specs.Elements.{K}
 use Rattle.checks.specs.Roots.{spots}
 use Rattle.checks.specs.Left.{left-sums}
 use Rattle.word.specs.Word.{errors, marked, bits}
+use Rattle.word.specs.Map.{changes}
+use Rattle.word.specs.Map.Laws.{changes-front}
 use Rattle.word.specs.Codeword.{qualifies, Codeword, in-reach, is-in-reach}
 use Rattle.word.specs.Distance.{errors-self, bits-self}
 use Rattle.word.specs.Code.{corrected}
@@ -140,15 +142,19 @@ summed s marks received rest f sums h e = record {
 
 -- ---- the answer of a damaged word
 
--- an accepted word's correction is at the front of the work space, and goes where `decode` or `decode_part` places it
-pub record Answered (s : Setting) (received marks work : List ℕ) (d : Decoded) : Type 0 where
+-- an accepted word's correction is at the front of the work space, and goes where `decode` or `decode_part` places it; its map is written, and
+-- that of a refused word is left
+pub record Answered (s : Setting) (received marks map work : List ℕ) (d : Decoded) (left-map : List ℕ) : Type 0 where
   pub size : length work ≡ 255
-  pub refused : numberOf d ≢ 0 → (d ≡ BeyondReach) × (corrected s marks received ≡ none)
-  pub done : numberOf d ≡ 0 → (d ≡ Done (figures marks received (take (s .n) work))) × (corrected s marks received ≡ some (take (s .n) work))
+  pub refused : numberOf d ≢ 0 → (d ≡ BeyondReach) × (corrected s marks received ≡ none) × (left-map ≡ map)
+  pub done : numberOf d ≡ 0 → (d ≡ Done (figures marks received (take (s .n) work))) × (corrected s marks received ≡ some (take (s .n) work)) × (left-map ≡ changes received (take (s .n) work))
 
-module _ (s : Setting) (received marks work : List ℕ) (n : length work ≡ 255) where
-  pub answered-none : corrected s marks received ≡ none → Answered s received marks work BeyondReach
-  answered-none g = record { size = n; refused = λ _. (refl, g); done = λ e. absurd (omega arith) }
+module _ (s : Setting) (received marks map work : List ℕ) (n : length work ≡ 255) where
+  pub answered-none : corrected s marks received ≡ none → Answered s received marks map work BeyondReach map
+  answered-none g = record { size = n; refused = λ _. (refl, g, refl); done = λ e. absurd (omega arith) }
 
-  pub answered-found : (f : Figures) → corrected s marks received ≡ some (take (s .n) work) → f ≡ figures marks received (take (s .n) work) → Answered s received marks work (Done f)
-  answered-found f g h = record { size = n; refused = λ ne. absurd (ne refl); done = λ _. (ap Done h, g) }
+  pub answered-found : (f : Figures) (u : List ℕ) → corrected s marks received ≡ some (take (s .n) work) → f ≡ figures marks received (take (s .n) work) → length received ≡ s .n → u ≡ changes received work
+      → Answered s received marks map work (Done f) u
+  answered-found f u g h e m =
+      let front : changes received work ≡ changes received (take (s .n) work) = sym (changes-front received work) ∙ ap (λ (k : ℕ). changes received (take k work)) e in
+      record { size = n; refused = λ ne. absurd (ne refl); done = λ _. (ap Done h, g, m ∙ front) }

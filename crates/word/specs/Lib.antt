@@ -1,6 +1,7 @@
 -- What the word code is and promises, in the paper's order ..
 pub mod Setting
 pub mod Figures
+pub mod Map
 pub mod Word
 pub mod Codeword
 pub mod Search

@@ -6,7 +6,9 @@ use mathlib.Core.Option.{Option, some, none}
 use Prim.Native.Nat.{ℕ, zero, suc, _≤_}
 use native.Mathlib.Omega.{arith}
 use lib.Dec.{T}
+use lib.ListN.{length}
 use Rattle.word.specs.Codeword.{qualifies}
+use Rattle.word.specs.Map.{changes, unchanged}
 use Rattle.word.specs.Code.{corrected}
 use Rattle.word.specs.Code.Laws.{corrected-some, corrected-only}
 use Rattle.word.specs.Answers.{figures, decodeRefusal}
@@ -18,18 +20,18 @@ use Rattle.word.specs.declared.Decoded.{Decoded}
 use Rattle.word.specs.declared.Decoded.the-variants.{Done, BadSetting, BadLength, BadSymbol, BeyondReach}
 
 -- what each answer means
-abbrev pub Means : Setting → (received marks : List ℕ) → Decoded → (left : List ℕ) → Type 0
-Means s received marks (Done f) left = T (qualifies s marks received left) × (f ≡ figures marks received left)
-Means s received marks BadSetting left = (left ≡ received) × (decodeRefusal s received marks ≡ 1)
-Means s received marks BadLength left = (left ≡ received) × (decodeRefusal s received marks ≡ 2)
-Means s received marks BadSymbol left = (left ≡ received) × (decodeRefusal s received marks ≡ 3)
-Means s received marks BeyondReach left = (left ≡ received) × ((c : List ℕ) → T (qualifies s marks received c) → ⊥)
+abbrev pub Means : Setting → (received marks map : List ℕ) → Decoded → (left left-map : List ℕ) → Type 0
+Means s received marks map (Done f) left left-map = T (qualifies s marks received left) × (f ≡ figures marks received left) × (left-map ≡ changes received left)
+Means s received marks map BadSetting left left-map = (left ≡ received) × (left-map ≡ map) × (decodeRefusal s received marks map ≡ 1)
+Means s received marks map BadLength left left-map = (left ≡ received) × (left-map ≡ map) × (decodeRefusal s received marks map ≡ 2)
+Means s received marks map BadSymbol left left-map = (left ≡ received) × (left-map ≡ map) × (decodeRefusal s received marks map ≡ 3)
+Means s received marks map BeyondReach left left-map = (left ≡ received) × (left-map ≡ unchanged received) × ((c : List ℕ) → T (qualifies s marks received c) → ⊥)
 
-module _ (s : Setting) (received marks : List ℕ) where
+module _ (s : Setting) (received marks map : List ℕ) where
   abbrev Answered : Type 0
-  Answered = (d : Decoded) × (left : List ℕ) × Decodes s received marks d left × Means s received marks d left
+  Answered = (d : Decoded) × (left : List ℕ) × (left-map : List ℕ) × Decodes s received marks map d left left-map × Means s received marks map d left left-map
 
-  module _ (k : Checked s marks received) where
+  module _ (l : length map ≡ s .n) (k : Checked s marks received) where
     none-qualifies : corrected s marks received ≡ none → (c : List ℕ) → T (qualifies s marks received c) → ⊥
     none-qualifies e c t =
         let x : some c ≡ none = sym (corrected-only s (k .setting) marks received (k .size) c t) ∙ e in
@@ -37,19 +39,26 @@ module _ (s : Setting) (received marks : List ℕ) where
         omega arith
 
     found : (o : Option (List ℕ)) → corrected s marks received ≡ o → Answered
-    found (some c) e = (Done (figures marks received c), c, decode-found s received marks k c (figures marks received c) e refl, (corrected-some s marks received c e, refl))
-    found none e = (BeyondReach, received, decode-lost s received marks k e, (refl, none-qualifies e))
+    found (some c) e = (
+      Done (figures marks received c),
+      c,
+      changes received c,
+      decode-found s received marks map l k c (figures marks received c) (changes received c) e refl refl,
+      (corrected-some s marks received c e, refl, refl),
+    )
+    found none e = (BeyondReach, received, unchanged received, decode-lost s received marks map l k (unchanged received) e refl, (refl, refl, none-qualifies e))
 
-  answered : (k : ℕ) → decodeRefusal s received marks ≡ k → k ≤ 3 → Answered
-  answered zero e l = found (checked s received marks e) (corrected s marks received) refl
-  answered (suc zero) e l = (BadSetting, received, decode-refused s received marks 1 BadSetting (sym e) (omega arith) (record { number = refl; none = refl }), (refl, e))
-  answered (suc (suc zero)) e l = (BadLength, received, decode-refused s received marks 2 BadLength (sym e) (omega arith) (record { number = refl; none = refl }), (refl, e))
-  answered (suc (suc (suc zero))) e l = (BadSymbol, received, decode-refused s received marks 3 BadSymbol (sym e) (omega arith) (record { number = refl; none = refl }), (refl, e))
+  answered : (k : ℕ) → decodeRefusal s received marks map ≡ k → k ≤ 3 → Answered
+  answered zero e l = let (size, c) = checked s received marks map e in found size c (corrected s marks received) refl
+  answered (suc zero) e l = (BadSetting, received, map, decode-refused s received marks map 1 BadSetting (sym e) (omega arith) (record { number = refl; none = refl }), (refl, refl, e))
+  answered (suc (suc zero)) e l = (BadLength, received, map, decode-refused s received marks map 2 BadLength (sym e) (omega arith) (record { number = refl; none = refl }), (refl, refl, e))
+  answered (suc (suc (suc zero))) e l = (BadSymbol, received, map, decode-refused s received marks map 3 BadSymbol (sym e) (omega arith) (record { number = refl; none = refl }), (refl, refl, e))
   answered (suc (suc (suc (suc k)))) e l = absurd (omega arith)
 
   -- who has the promise has the meaning
-  pub means : (d : Decoded) (left : List ℕ) → Decodes s received marks d left → Means s received marks d left
-  means d left p =
-      let (d′, left′, q, m) = answered (decodeRefusal s received marks) refl (decode-most s received marks) in
-      let (x, y) = decodes-once q p in
-      subst (λ (e : Decoded). Means s received marks e left) x (subst (λ (w : List ℕ). Means s received marks d′ w) y m)
+  pub means : (d : Decoded) (left left-map : List ℕ) → Decodes s received marks map d left left-map → Means s received marks map d left left-map
+  means d left left-map p =
+      let (d′, left′, map′, q, m) = answered (decodeRefusal s received marks map) refl (decode-most s received marks map) in
+      let (x, y, z) = decodes-once q p in
+      subst (λ (e : Decoded). Means s received marks map e left left-map) x
+      (subst (λ (w : List ℕ). Means s received marks map d′ w left-map) y (subst (λ (u : List ℕ). Means s received marks map d′ left′ u) z m))

@@ -8,6 +8,7 @@ use native.Mathlib.Omega.{arith}
 use lib.ListN.{length, take}
 use Rattle.algebra.specs.Refusal.{new, kept}
 use Rattle.word.specs.Setting.{messageSize}
+use Rattle.word.specs.Map.{changes, unchanged}
 use Rattle.word.specs.Code.{encoded, corrected}
 use Rattle.word.specs.Answers.{numberOf, figuresOf, encodedNumber, noFigures, EncodeOutcome, encodeOutcome, decodeOutcome, refused, encodeRefusal, encoding, figures, placed, answering, decodeRefusal, decoding, partRefusal, decodingPart}
 use Rattle.word.specs.Promises.{Encodes, Decodes, DecodesPart, encodes-once}
@@ -44,61 +45,62 @@ pub record Refuses (k : ℕ) (d : Decoded) : Type 0 where
   pub number : numberOf d ≡ k
   pub none : figuresOf d ≡ noFigures
 
-refuses-outcome : (k : ℕ) (d : Decoded) (w : List ℕ) → Refuses k d → decodeOutcome d w ≡ refused k w
-refuses-outcome k d w r = rw (r .number, r .none)
+refuses-outcome : (k : ℕ) (d : Decoded) (w map : List ℕ) → Refuses k d → decodeOutcome d w map ≡ refused k w map
+refuses-outcome k d w map r = rw (r .number, r .none)
 
-module _ (s : Setting) (received marks : List ℕ) (place : List ℕ → List ℕ) (lent : List ℕ) where
-  pub answering-refused : (k z : ℕ) (d : Decoded) → k ≡ z → 0 < k → Refuses k d → decodeOutcome d lent ≡ answering s received marks z place lent
+module _ (s : Setting) (received marks : List ℕ) (place : List ℕ → List ℕ) (lent map : List ℕ) where
+  pub answering-refused : (k z : ℕ) (d : Decoded) → k ≡ z → 0 < k → Refuses k d → decodeOutcome d lent map ≡ answering s received marks z place lent map
   unfolding answering
-  answering-refused k z d e h r = refuses-outcome k d lent r ∙ rw e (kept z _ _ (omega arith))
+  answering-refused k z d e h r = refuses-outcome k d lent map r ∙ rw e (kept z _ _ (omega arith))
 
   module _ (z : ℕ) (e : 0 ≡ z) where
-    looked-at : placed place marks received lent (corrected s marks received) ≡ answering s received marks z place lent
+    looked-at : placed place marks received lent (corrected s marks received) ≡ answering s received marks z place lent map
     unfolding answering
     looked-at = new z _ _ (sym e)
 
-    pub answering-found : (w : List ℕ) (f : Figures) → corrected s marks received ≡ some w → f ≡ figures marks received w
-        → decodeOutcome (Done f) (place w) ≡ answering s received marks z place lent
-    answering-found w f g h = rw h (sym (ap (placed place marks received lent) g) ∙ looked-at)
+    pub answering-found : (w : List ℕ) (f : Figures) (u : List ℕ) → corrected s marks received ≡ some w → f ≡ figures marks received w → u ≡ changes received w
+        → decodeOutcome (Done f) (place w) u ≡ answering s received marks z place lent map
+    answering-found w f u g h m = rw (h, m) (sym (ap (placed place marks received lent) g) ∙ looked-at)
 
-    pub answering-none : corrected s marks received ≡ none → decodeOutcome BeyondReach lent ≡ answering s received marks z place lent
-    answering-none g = sym (ap (placed place marks received lent) g) ∙ looked-at
+    pub answering-none : (u : List ℕ) → corrected s marks received ≡ none → u ≡ unchanged received → decodeOutcome BeyondReach lent u ≡ answering s received marks z place lent map
+    answering-none u g m = rw m (sym (ap (placed place marks received lent) g) ∙ looked-at)
 
-module _ (s : Setting) (received marks : List ℕ) where
-  pub decodes-by : (z : ℕ) (d : Decoded) (left : List ℕ) → z ≡ decodeRefusal s received marks → decodeOutcome d left ≡ answering s received marks z (λ c. c) received
-      → Decodes s received marks d left
+module _ (s : Setting) (received marks map : List ℕ) where
+  pub decodes-by : (z : ℕ) (d : Decoded) (left left-map : List ℕ) → z ≡ decodeRefusal s received marks map
+      → decodeOutcome d left left-map ≡ answering s received marks z (λ c. c) received map → Decodes s received marks map d left left-map
   unfolding decoding
-  decodes-by z d left e p = record { outcome = p ∙ ap (λ (y : ℕ). answering s received marks y (λ c. c) received) e }
+  decodes-by z d left left-map e p = record { outcome = p ∙ ap (λ (y : ℕ). answering s received marks y (λ c. c) received map) e }
 
-  pub decode-refused : (k : ℕ) (d : Decoded) → k ≡ decodeRefusal s received marks → 0 < k → Refuses k d → Decodes s received marks d received
+  pub decode-refused : (k : ℕ) (d : Decoded) → k ≡ decodeRefusal s received marks map → 0 < k → Refuses k d → Decodes s received marks map d received map
   unfolding decoding
-  decode-refused k d e h r = record { outcome = answering-refused s received marks _ received k _ d e h r }
+  decode-refused k d e h r = record { outcome = answering-refused s received marks _ received map k _ d e h r }
 
-  module _ (c : Checked s marks received) where
-    pub decode-found : (w : List ℕ) (f : Figures) → corrected s marks received ≡ some w → f ≡ figures marks received w → Decodes s received marks (Done f) w
+  module _ (l : length map ≡ s .n) (c : Checked s marks received) where
+    pub decode-found : (w : List ℕ) (f : Figures) (u : List ℕ) → corrected s marks received ≡ some w → f ≡ figures marks received w → u ≡ changes received w
+        → Decodes s received marks map (Done f) w u
     unfolding decoding
-    decode-found w f g h = record { outcome = answering-found s received marks (λ c. c) received _ (passes s received marks c) w f g h }
+    decode-found w f u g h m = record { outcome = answering-found s received marks (λ c. c) received map _ (passes s received marks map l c) w f u g h m }
 
-    pub decode-lost : corrected s marks received ≡ none → Decodes s received marks BeyondReach received
+    pub decode-lost : (u : List ℕ) → corrected s marks received ≡ none → u ≡ unchanged received → Decodes s received marks map BeyondReach received u
     unfolding decoding
-    decode-lost g = record { outcome = answering-none s received marks _ received _ (passes s received marks c) g }
+    decode-lost u g m = record { outcome = answering-none s received marks _ received map _ (passes s received marks map l c) u g m }
 
-module _ (s : Setting) (received marks part : List ℕ) where
-  pub part-by : (z : ℕ) (d : Decoded) (left : List ℕ) → z ≡ partRefusal s received marks part → decodeOutcome d left ≡ answering s received marks z (take (messageSize s)) part
-      → DecodesPart s received marks part d left
+module _ (s : Setting) (received marks part map : List ℕ) where
+  pub part-by : (z : ℕ) (d : Decoded) (left left-map : List ℕ) → z ≡ partRefusal s received marks part map
+      → decodeOutcome d left left-map ≡ answering s received marks z (take (messageSize s)) part map → DecodesPart s received marks part map d left left-map
   unfolding decodingPart
-  part-by z d left e p = record { outcome = p ∙ ap (λ (y : ℕ). answering s received marks y (take (messageSize s)) part) e }
+  part-by z d left left-map e p = record { outcome = p ∙ ap (λ (y : ℕ). answering s received marks y (take (messageSize s)) part map) e }
 
-  pub part-refused : (k : ℕ) (d : Decoded) → k ≡ partRefusal s received marks part → 0 < k → Refuses k d → DecodesPart s received marks part d part
+  pub part-refused : (k : ℕ) (d : Decoded) → k ≡ partRefusal s received marks part map → 0 < k → Refuses k d → DecodesPart s received marks part map d part map
   unfolding decodingPart
-  part-refused k d e h r = record { outcome = answering-refused s received marks _ part k _ d e h r }
+  part-refused k d e h r = record { outcome = answering-refused s received marks _ part map k _ d e h r }
 
-  module _ (n : length part ≡ messageSize s) (c : Checked s marks received) where
-    pub part-found : (w : List ℕ) (f : Figures) → corrected s marks received ≡ some w → f ≡ figures marks received w
-        → DecodesPart s received marks part (Done f) (take (messageSize s) w)
+  module _ (n : length part ≡ messageSize s) (l : length map ≡ s .n) (c : Checked s marks received) where
+    pub part-found : (w : List ℕ) (f : Figures) (u : List ℕ) → corrected s marks received ≡ some w → f ≡ figures marks received w → u ≡ changes received w
+        → DecodesPart s received marks part map (Done f) (take (messageSize s) w) u
     unfolding decodingPart
-    part-found w f g h = record { outcome = answering-found s received marks (take (messageSize s)) part _ (part-passes s received marks part n c) w f g h }
+    part-found w f u g h m = record { outcome = answering-found s received marks (take (messageSize s)) part map _ (part-passes s received marks part map n l c) w f u g h m }
 
-    pub part-lost : corrected s marks received ≡ none → DecodesPart s received marks part BeyondReach part
+    pub part-lost : (u : List ℕ) → corrected s marks received ≡ none → u ≡ unchanged received → DecodesPart s received marks part map BeyondReach part u
     unfolding decodingPart
-    part-lost g = record { outcome = answering-none s received marks _ part _ (part-passes s received marks part n c) g }
+    part-lost u g m = record { outcome = answering-none s received marks _ part map _ (part-passes s received marks part map n l c) u g m }

@@ -21,12 +21,12 @@ pub record Encodes (s : Setting) (message word : List ℕ) (d : Encoded) (left :
   pub outcome : encodeOutcome d left ≡ encoding s message word
 
 -- `decode`
-pub record Decodes (s : Setting) (received marks : List ℕ) (d : Decoded) (left : List ℕ) : Type 0 where
-  pub outcome : decodeOutcome d left ≡ decoding s received marks
+pub record Decodes (s : Setting) (received marks map : List ℕ) (d : Decoded) (left left-map : List ℕ) : Type 0 where
+  pub outcome : decodeOutcome d left left-map ≡ decoding s received marks map
 
 -- `decode_part`
-pub record DecodesPart (s : Setting) (received marks part : List ℕ) (d : Decoded) (left : List ℕ) : Type 0 where
-  pub outcome : decodeOutcome d left ≡ decodingPart s received marks part
+pub record DecodesPart (s : Setting) (received marks part map : List ℕ) (d : Decoded) (left left-map : List ℕ) : Type 0 where
+  pub outcome : decodeOutcome d left left-map ≡ decodingPart s received marks part map
 
 -- ---- no second answer: what the paper's terms say of an answer leaves only one
 
@@ -61,14 +61,17 @@ decoded-as BadLength = refl
 decoded-as BadSymbol = refl
 decoded-as BeyondReach = refl
 
-answer-once : (d e : Decoded) (x y : List ℕ) → decodeOutcome d x ≡ decodeOutcome e y → (d ≡ e) × (x ≡ y)
-answer-once d e x y same =
-    (sym (decoded-as d) ∙ ap (λ (o : DecodeOutcome). decodedAs (o .number) (o .figures)) same ∙ decoded-as e, ap (λ (o : DecodeOutcome). o .word) same)
+answer-once : (d e : Decoded) (x y u v : List ℕ) → decodeOutcome d x u ≡ decodeOutcome e y v → (d ≡ e) × (x ≡ y) × (u ≡ v)
+answer-once d e x y u v same = (
+  sym (decoded-as d) ∙ ap (λ (o : DecodeOutcome). decodedAs (o .number) (o .figures)) same ∙ decoded-as e,
+  ap (λ (o : DecodeOutcome). o .word) same,
+  ap (λ (o : DecodeOutcome). o .map) same,
+)
 
-pub decodes-once : {s : Setting} {received marks : List ℕ} {d e : Decoded} {x y : List ℕ}
-    → Decodes s received marks d x → Decodes s received marks e y → (d ≡ e) × (x ≡ y)
-decodes-once p q = answer-once _ _ _ _ (p .outcome ∙ sym (q .outcome))
+pub decodes-once : {s : Setting} {received marks map : List ℕ} {d e : Decoded} {x y u v : List ℕ}
+    → Decodes s received marks map d x u → Decodes s received marks map e y v → (d ≡ e) × (x ≡ y) × (u ≡ v)
+decodes-once p q = answer-once _ _ _ _ _ _ (p .outcome ∙ sym (q .outcome))
 
-pub decodes-part-once : {s : Setting} {received marks part : List ℕ} {d e : Decoded} {x y : List ℕ}
-    → DecodesPart s received marks part d x → DecodesPart s received marks part e y → (d ≡ e) × (x ≡ y)
-decodes-part-once p q = answer-once _ _ _ _ (p .outcome ∙ sym (q .outcome))
+pub decodes-part-once : {s : Setting} {received marks part map : List ℕ} {d e : Decoded} {x y u v : List ℕ}
+    → DecodesPart s received marks part map d x u → DecodesPart s received marks part map e y v → (d ≡ e) × (x ≡ y) × (u ≡ v)
+decodes-part-once p q = answer-once _ _ _ _ _ _ (p .outcome ∙ sym (q .outcome))

@@ -54,48 +54,51 @@ pub record Checked (s : Setting) (marks received : List ℕ) : Type 0 where
   pub small : T (below (2 ^ s .m) received)
   pub marks-small : T (below 2 marks)
 
-module _ (s : Setting) (received marks : List ℕ) where
-  pub decode-setting : allowed s ≡ false → 1 ≡ decodeRefusal s received marks
+module _ (s : Setting) (received marks map : List ℕ) where
+  pub decode-setting : allowed s ≡ false → 1 ≡ decodeRefusal s received marks map
   unfolding decodeRefusal
   decode-setting a = need-no _ _ _ (not-allowed s a)
 
-  pub decode-most : decodeRefusal s received marks ≤ 3
+  pub decode-most : decodeRefusal s received marks map ≤ 3
   unfolding decodeRefusal
   decode-most =
       let most : ℕ → Type 0 = λ k. k ≤ 3 in
       need-either _ 1 _ most (omega arith)
-      (need-either _ 2 _ most (omega arith) (need-either _ 2 _ most (omega arith) (need-either _ 3 _ most (omega arith) (need-either _ 3 0 most (omega arith) (omega arith)))))
+      (need-either _ 2 _ most (omega arith) (need-either _ 2 _ most (omega arith) (need-either _ 2 _ most (omega arith)
+      (need-either _ 3 _ most (omega arith) (need-either _ 3 0 most (omega arith) (omega arith))))))
 
-  pub checked : decodeRefusal s received marks ≡ 0 → Checked s marks received
+  pub checked : decodeRefusal s received marks map ≡ 0 → (length map ≡ s .n) × Checked s marks received
   unfolding decodeRefusal
   checked e =
       let (a, e₁) = need-zero (Refusal.passes (allowed s)) 1 _ (omega arith) e in
       let (n, e₂) = need-zero (ℕ-discrete (length received) (s .n)) 2 _ (omega arith) e₁ in
       let (k, e₃) = need-zero (ℕ-discrete (length marks) (s .n)) 2 _ (omega arith) e₂ in
-      let (b, e₄) = need-zero (Refusal.passes (below (2 ^ s .m) received)) 3 _ (omega arith) e₃ in
-      let (f, _) = need-zero (Refusal.passes (below 2 marks)) 3 _ (omega arith) e₄ in
-      record { setting = a; size = n; marks-size = k; small = b; marks-small = f }
+      let (l, e₄) = need-zero (ℕ-discrete (length map) (s .n)) 2 _ (omega arith) e₃ in
+      let (b, e₅) = need-zero (Refusal.passes (below (2 ^ s .m) received)) 3 _ (omega arith) e₄ in
+      let (f, _) = need-zero (Refusal.passes (below 2 marks)) 3 _ (omega arith) e₅ in
+      (l, record { setting = a; size = n; marks-size = k; small = b; marks-small = f })
 
-  pub passes : Checked s marks received → 0 ≡ decodeRefusal s received marks
+  pub passes : length map ≡ s .n → Checked s marks received → 0 ≡ decodeRefusal s received marks map
   unfolding decodeRefusal
-  passes c =
+  passes l c =
       need-yes _ _ _ _ (c .setting)
-      (need-yes _ _ _ _ (c .size) (need-yes _ _ _ _ (c .marks-size) (need-yes _ _ _ _ (c .small) (need-yes _ _ _ _ (c .marks-small) refl))))
+      (need-yes _ _ _ _ (c .size) (need-yes _ _ _ _ (c .marks-size) (need-yes _ _ _ _ l (need-yes _ _ _ _ (c .small) (need-yes _ _ _ _ (c .marks-small) refl)))))
 
 -- ---- and before it goes to a part
 
-module _ (s : Setting) (received marks part : List ℕ) where
-  pub part-setting : allowed s ≡ false → 1 ≡ partRefusal s received marks part
+module _ (s : Setting) (received marks part map : List ℕ) where
+  pub part-setting : allowed s ≡ false → 1 ≡ partRefusal s received marks part map
   unfolding partRefusal
   part-setting a = need-no _ _ _ (not-allowed s a)
 
-  pub part-checked : partRefusal s received marks part ≡ 0 → (length part ≡ messageSize s) × Checked s marks received
+  pub part-checked : partRefusal s received marks part map ≡ 0 → (length part ≡ messageSize s) × (length map ≡ s .n) × Checked s marks received
   unfolding partRefusal
   part-checked e =
       let (a, e₁) = need-zero (Refusal.passes (allowed s)) 1 _ (omega arith) e in
       let (n, e₂) = need-zero (ℕ-discrete (length part) (messageSize s)) 2 _ (omega arith) e₁ in
-      (n, checked s received marks e₂)
+      let (l, c) = checked s received marks map e₂ in
+      (n, l, c)
 
-  pub part-passes : length part ≡ messageSize s → Checked s marks received → 0 ≡ partRefusal s received marks part
+  pub part-passes : length part ≡ messageSize s → length map ≡ s .n → Checked s marks received → 0 ≡ partRefusal s received marks part map
   unfolding partRefusal
-  part-passes n c = need-yes _ _ _ _ (c .setting) (need-yes _ _ _ _ n (passes s received marks c))
+  part-passes n l c = need-yes _ _ _ _ (c .setting) (need-yes _ _ _ _ n (passes s received marks map l c))

@@ -5,6 +5,7 @@ pub mod correct;
 pub mod count;
 pub mod limits;
 pub mod look;
+pub mod map;
 pub mod numbers;
 pub mod tables;
 
@@ -18,6 +19,7 @@ ghost use Rattle.word.specs.Met.{Refuses};
 ghost use Rattle.word.specs.Looking.{Measured, Looked};
 ghost use Rattle.word.specs.Correcting.{Answered};
 use buffers::copy;
+use buffers::fill;
 use buffers::join;
 use buffers::work_space;
 use checks::register::check_symbols;
@@ -29,6 +31,7 @@ use limits::part_refusal;
 use look::Look;
 use look::clean_figures;
 use look::look_at;
+use map::note_changes;
 use numbers::number_of;
 
 // What a word code is set to: m bits a symbol, n symbols a word, r check symbols, and b, the power of a at which its zeros start.
@@ -106,7 +109,7 @@ fn decode_refused(number: u8) -> Decoded
     Decoded::BadSymbol
 }
 
-// What a damaged word is answered: its correction is put at the front of the work space, where there is one.
+// What a damaged word is answered: its correction is put at the front of the work space and its map is written, where there is one.
 fn answer(
     s: Setting,
     f: usize,
@@ -114,24 +117,27 @@ fn answer(
     received: &[u8],
     marks: &[u8],
     work: &mut [u8],
+    map: &mut [u8],
 ) -> Decoded
-    requires { ⌜ Measured s (now marks) (now received) f rest × (length (now work) ≡ 255) ⌝ }
-    ensures { λ d. ⌜ Answered s (now (received .entry)) (now (marks .entry)) (now (work .exit)) d ⌝ }
+    requires { ⌜ Measured s (now marks) (now received) f rest × (length (now work) ≡ 255) × (length (now map) ≡ s .n) ⌝ }
+    ensures { λ d. ⌜ Answered s (now (received .entry)) (now (marks .entry)) (now (map .entry)) (now (work .exit)) d (now (map .exit)) ⌝ }
 {
     let n = s.n;
     let correction = correct_word(s, f, rest, received, marks, &mut work[0..n]);
     if !correction.found {
         return Decoded::BeyondReach;
     }
+    note_changes(received, work, map);
     let figures = correction.figures;
     Decoded::Done(figures)
 }
 
-// Corrects a word that has been looked at where it stands. Nothing is copied or written unless it is damaged.
-fn in_place(s: Setting, seen: Look, word: &mut [u8], marks: &[u8]) -> Decoded
-    requires { ⌜ Looked s (now marks) (now word) seen ⌝ }
-    ensures { λ d. ⌜ Decodes s (now (word .entry)) (now (marks .entry)) d (now (word .exit)) ⌝ }
+// Corrects a word that has been looked at where it stands. Nothing but the map is written unless it is damaged.
+fn in_place(s: Setting, seen: Look, word: &mut [u8], marks: &[u8], map: &mut [u8]) -> Decoded
+    requires { ⌜ Looked s (now marks) (now word) seen × (length (now map) ≡ s .n) ⌝ }
+    ensures { λ d. ⌜ Decodes s (now (word .entry)) (now (marks .entry)) (now (map .entry)) d (now (word .exit)) (now (map .exit)) ⌝ }
 {
+    fill(map, 0);
     if seen.lost {
         return Decoded::BeyondReach;
     }
@@ -140,7 +146,7 @@ fn in_place(s: Setting, seen: Look, word: &mut [u8], marks: &[u8]) -> Decoded
     }
     let rest = seen.rest;
     let mut work = work_space();
-    let d = answer(s, seen.marked, rest, word, marks, &mut work);
+    let d = answer(s, seen.marked, rest, word, marks, &mut work, map);
     if number_of(d) != 0 {
         return d;
     }
@@ -149,10 +155,18 @@ fn in_place(s: Setting, seen: Look, word: &mut [u8], marks: &[u8]) -> Decoded
 }
 
 // The same with the message put into a part of its own, and the received word only read.
-fn to_part(s: Setting, seen: Look, received: &[u8], marks: &[u8], part: &mut [u8]) -> Decoded
-    requires { ⌜ Looked s (now marks) (now received) seen × (length (now part) ≡ messageSize s) ⌝ }
-    ensures { λ d. ⌜ DecodesPart s (now (received .entry)) (now (marks .entry)) (now (part .entry)) d (now (part .exit)) ⌝ }
+fn to_part(
+    s: Setting,
+    seen: Look,
+    received: &[u8],
+    marks: &[u8],
+    part: &mut [u8],
+    map: &mut [u8],
+) -> Decoded
+    requires { ⌜ Looked s (now marks) (now received) seen × (length (now part) ≡ messageSize s) × (length (now map) ≡ s .n) ⌝ }
+    ensures { λ d. ⌜ DecodesPart s (now (received .entry)) (now (marks .entry)) (now (part .entry)) (now (map .entry)) d (now (part .exit)) (now (map .exit)) ⌝ }
 {
+    fill(map, 0);
     if seen.lost {
         return Decoded::BeyondReach;
     }
@@ -162,7 +176,7 @@ fn to_part(s: Setting, seen: Look, received: &[u8], marks: &[u8], part: &mut [u8
     }
     let rest = seen.rest;
     let mut work = work_space();
-    let d = answer(s, seen.marked, rest, received, marks, &mut work);
+    let d = answer(s, seen.marked, rest, received, marks, &mut work, map);
     if number_of(d) != 0 {
         return d;
     }
@@ -170,29 +184,36 @@ fn to_part(s: Setting, seen: Look, received: &[u8], marks: &[u8], part: &mut [u8
     d
 }
 
-// Corrects a received word where it stands to the codeword with 2e + f ≤ r; its marks are only read.
+// Corrects a received word where it stands to the codeword with 2e + f ≤ r; its marks are only read. The map gets 1 where the word was
+// changed, and 0 elsewhere.
 // Refused 1 for the setting, 2 for a length, 3 for a symbol of 2^m or more or a mark above 1, and 4 where no codeword qualifies; the
-// word is then left as it was.
-pub fn decode(s: Setting, word: &mut [u8], marks: &[u8]) -> Decoded
-    ensures { λ d. ⌜ Decodes s (now (word .entry)) (now (marks .entry)) d (now (word .exit)) ⌝ }
+// word is then left as it was. The map is all 0 under 4, and left as it was under 1, 2 and 3.
+pub fn decode(s: Setting, word: &mut [u8], marks: &[u8], map: &mut [u8]) -> Decoded
+    ensures { λ d. ⌜ Decodes s (now (word .entry)) (now (marks .entry)) (now (map .entry)) d (now (word .exit)) (now (map .exit)) ⌝ }
 {
-    let number = decode_refusal(s, word, marks);
+    let number = decode_refusal(s, word, marks, map);
     if number != 0 {
         return decode_refused(number);
     }
     let seen = look_at(s, word, marks);
-    in_place(s, seen, word, marks)
+    in_place(s, seen, word, marks, map)
 }
 
 // The same with the received word only read: the k message symbols of the corrected word go to the lent part. Refused as `decode`
 // is, and 2 for a part that has not k symbols; the part is then left as it was.
-pub fn decode_part(s: Setting, received: &[u8], marks: &[u8], part: &mut [u8]) -> Decoded
-    ensures { λ d. ⌜ DecodesPart s (now (received .entry)) (now (marks .entry)) (now (part .entry)) d (now (part .exit)) ⌝ }
+pub fn decode_part(
+    s: Setting,
+    received: &[u8],
+    marks: &[u8],
+    part: &mut [u8],
+    map: &mut [u8],
+) -> Decoded
+    ensures { λ d. ⌜ DecodesPart s (now (received .entry)) (now (marks .entry)) (now (part .entry)) (now (map .entry)) d (now (part .exit)) (now (map .exit)) ⌝ }
 {
-    let number = part_refusal(s, received, marks, part);
+    let number = part_refusal(s, received, marks, part, map);
     if number != 0 {
         return decode_refused(number);
     }
     let seen = look_at(s, received, marks);
-    to_part(s, seen, received, marks, part)
+    to_part(s, seen, received, marks, part, map)
 }

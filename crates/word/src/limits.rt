@@ -62,9 +62,9 @@ pub fn encode_refusal(s: Setting, message: &[u8], word: &[u8]) -> u8
     0
 }
 
-// The number by which a received word and its marks are refused, or 0.
-pub fn decode_refusal(s: Setting, received: &[u8], marks: &[u8]) -> u8
-    ensures { λ r. ⌜ (r ≡ decodeRefusal s (now (received .entry)) (now (marks .entry))) × (r ≤ 3) ⌝ }
+// The number by which a received word, its marks and the room for its map are refused, or 0.
+pub fn decode_refusal(s: Setting, received: &[u8], marks: &[u8], map: &[u8]) -> u8
+    ensures { λ r. ⌜ (r ≡ decodeRefusal s (now (received .entry)) (now (marks .entry)) (now (map .entry))) × (r ≤ 3) ⌝ }
 {
     if !is_allowed(s) {
         return 1;
@@ -73,6 +73,9 @@ pub fn decode_refusal(s: Setting, received: &[u8], marks: &[u8]) -> u8
         return 2;
     }
     if marks.len() != s.n {
+        return 2;
+    }
+    if map.len() != s.n {
         return 2;
     }
     if !all_below(received, symbols_of(s.m)) {
@@ -85,8 +88,8 @@ pub fn decode_refusal(s: Setting, received: &[u8], marks: &[u8]) -> u8
 }
 
 // The same where the message goes to a part: its length stands before the symbols.
-pub fn part_refusal(s: Setting, received: &[u8], marks: &[u8], part: &[u8]) -> u8
-    ensures { λ r. ⌜ (r ≡ partRefusal s (now (received .entry)) (now (marks .entry)) (now (part .entry))) × (r ≤ 3) ⌝ }
+pub fn part_refusal(s: Setting, received: &[u8], marks: &[u8], part: &[u8], map: &[u8]) -> u8
+    ensures { λ r. ⌜ (r ≡ partRefusal s (now (received .entry)) (now (marks .entry)) (now (part .entry)) (now (map .entry))) × (r ≤ 3) ⌝ }
 {
     if !is_allowed(s) {
         return 1;
@@ -94,5 +97,5 @@ pub fn part_refusal(s: Setting, received: &[u8], marks: &[u8], part: &[u8]) -> u
     if part.len() != s.n - s.r {
         return 2;
     }
-    decode_refusal(s, received, marks)
+    decode_refusal(s, received, marks, map)
 }

@@ -47,10 +47,11 @@ pub fn decode_part_by(
     received: &[u8],
     marks: &[u8],
     part: &mut [u8],
+    map: &mut [u8],
 ) -> Decoded
-    requires { ⌜ Checked s (now marks) (now received) × Tabled s (now low) (now high) × (length (now part) ≡ messageSize s) ⌝ }
-    ensures { λ d. ⌜ DecodesPart s (now (received .entry)) (now (marks .entry)) (now (part .entry)) d (now (part .exit)) ⌝ }
+    requires { ⌜ Checked s (now marks) (now received) × Tabled s (now low) (now high) × (length (now part) ≡ messageSize s) × (length (now map) ≡ s .n) ⌝ }
+    ensures { λ d. ⌜ DecodesPart s (now (received .entry)) (now (marks .entry)) (now (part .entry)) (now (map .entry)) d (now (part .exit)) (now (map .exit)) ⌝ }
 {
     let seen = look_by(s, low, high, received, marks);
-    to_part(s, seen, received, marks, part)
+    to_part(s, seen, received, marks, part, map)
 }

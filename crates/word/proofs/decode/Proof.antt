@@ -1,4 +1,4 @@
--- `decode` meets its contract: a refusal leaves the word, and `in_place` promises the rest.
+-- `decode` meets its contract: a refusal leaves the word and the map, and `in_place` promises the rest.
 -- Assumes nothing.
 use mathlib.Core.Path.{sym, _∙_}
 use native.Mathlib.Omega.{arith}
@@ -17,17 +17,23 @@ decode-refused-requires c κs = (omega arith, c .before .decode-refusal .ensures
 same-length : tie.Need-same-length
 same-length c = search needs
 
-returns : tie.Need-returns
-returns c = decode-refused _ _ _ _ _ (c .before .before .decode-refusal .ensures .0) (omega arith) (c .decode-refused .ensures)
-
-look-at-requires : tie.Need-look-at-requires
-look-at-requires c κs = checked _ _ _ (sym (c .before .before .decode-refusal .ensures .0) ∙ c .before .if1 .left)
-
-in-place-requires : tie.Need-in-place-requires
-in-place-requires c κs = search needs
-
 same-length-2 : tie.Need-same-length-2
 same-length-2 c = search needs
+
+returns : tie.Need-returns
+returns c = decode-refused _ _ _ _ _ _ (c .before .before .decode-refusal .ensures .0) (omega arith) (c .decode-refused .ensures)
+
+look-at-requires : tie.Need-look-at-requires
+look-at-requires c κs = checked _ _ _ _ (sym (c .before .before .decode-refusal .ensures .0) ∙ c .before .if1 .left) .1
+
+in-place-requires : tie.Need-in-place-requires
+in-place-requires c κs = (c .before .before .look-at .ensures, checked _ _ _ _ (sym (c .before .before .before .before .before .decode-refusal .ensures .0) ∙ c .before .before .before .before .if1 .left) .0)
+
+same-length-3 : tie.Need-same-length-3
+same-length-3 c = search needs
+
+same-length-4 : tie.Need-same-length-4
+same-length-4 c = search needs
 
 returns-2 : tie.Need-returns-2
 returns-2 c = search needs
@@ -39,8 +45,10 @@ decode-spec =
     decode-refusal-requires
     decode-refused-requires
     same-length
+    same-length-2
     returns
     look-at-requires
     in-place-requires
-    same-length-2
+    same-length-3
+    same-length-4
     returns-2)

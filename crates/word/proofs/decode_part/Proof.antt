@@ -1,4 +1,4 @@
--- `decode_part` meets its contract: a refusal leaves the part, and `to_part` promises the rest.
+-- `decode_part` meets its contract: a refusal leaves the part and the map, and `to_part` promises the rest.
 -- Assumes nothing.
 use mathlib.Core.Path.{sym, _∙_}
 use native.Mathlib.Omega.{arith}
@@ -17,17 +17,25 @@ decode-refused-requires c κs = (omega arith, c .before .part-refusal .ensures .
 same-length : tie.Need-same-length
 same-length c = search needs
 
-returns : tie.Need-returns
-returns c = part-refused _ _ _ _ _ _ (c .before .before .part-refusal .ensures .0) (omega arith) (c .decode-refused .ensures)
-
-look-at-requires : tie.Need-look-at-requires
-look-at-requires c κs = part-checked _ _ _ _ (sym (c .before .part-refusal .ensures .0) ∙ c .if1 .left) .1
-
-to-part-requires : tie.Need-to-part-requires
-to-part-requires c κs = (c .before .look-at .ensures, part-checked _ _ _ _ (sym (c .before .before .before .part-refusal .ensures .0) ∙ c .before .before .if1 .left) .0)
-
 same-length-2 : tie.Need-same-length-2
 same-length-2 c = search needs
+
+returns : tie.Need-returns
+returns c = part-refused _ _ _ _ _ _ _ (c .before .before .part-refusal .ensures .0) (omega arith) (c .decode-refused .ensures)
+
+look-at-requires : tie.Need-look-at-requires
+look-at-requires c κs = part-checked _ _ _ _ _ (sym (c .before .part-refusal .ensures .0) ∙ c .if1 .left) .2
+
+to-part-requires : tie.Need-to-part-requires
+to-part-requires c κs =
+    let checked = part-checked _ _ _ _ _ (sym (c .before .before .before .before .part-refusal .ensures .0) ∙ c .before .before .before .if1 .left) in
+    (c .before .before .look-at .ensures, checked .0, checked .1)
+
+same-length-3 : tie.Need-same-length-3
+same-length-3 c = search needs
+
+same-length-4 : tie.Need-same-length-4
+same-length-4 c = search needs
 
 returns-2 : tie.Need-returns-2
 returns-2 c = search needs
@@ -39,8 +47,10 @@ decode-part-spec =
     part-refusal-requires
     decode-refused-requires
     same-length
+    same-length-2
     returns
     look-at-requires
     to-part-requires
-    same-length-2
+    same-length-3
+    same-length-4
     returns-2)

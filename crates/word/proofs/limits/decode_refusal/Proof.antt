@@ -30,47 +30,53 @@ returns-3 c =
     let ok = test-yes _ _ (allowed .before .is-allowed .ensures) (allowed .if1 .left) in
     (need-yes _ _ _ _ ok (need-yes _ _ _ _ (sized .if2 .left) (need-no _ _ _ (c .if3 .taken))), omega arith)
 
+returns-4 : tie.Need-returns-4
+unfolding decodeRefusal
+returns-4 c =
+    let ok = test-yes _ _ (c .before .before .before .before .before .before .before .is-allowed .ensures) (c .before .before .before .before .before .before .if1 .left) in
+    (need-yes _ _ _ _ ok (need-yes _ _ _ _ (c .before .before .before .before .if2 .left) (need-yes _ _ _ _ (c .before .before .if3 .left) (need-no _ _ _ (c .if4 .taken)))), omega arith)
+
 symbols-of-requires : tie.Need-symbols-of-requires
 symbols-of-requires c κs = search needs
 
 all-below-requires : tie.Need-all-below-requires
 all-below-requires c κs = search needs
 
-returns-4 : tie.Need-returns-4
-unfolding decodeRefusal
-returns-4 c =
-    let sized = c .before .before .before in
-    let allowed = sized .before .before .before .before in
-    let ok = test-yes _ _ (allowed .before .is-allowed .ensures) (allowed .if1 .left) in
-    let small = c .before .all-below .ensures ∙ own-symbols _ ok _ _ (c .before .before .symbols-of .ensures) in
-    (need-yes _ _ _ _ ok (need-yes _ _ _ _ (sized .before .before .if2 .left) (need-yes _ _ _ _ (sized .if3 .left) (need-no _ _ _ (test-no _ _ small (c .if4 .taken))))), omega arith)
-
-all-below-requires-2 : tie.Need-all-below-requires-2
-all-below-requires-2 c κs = search needs
-
 returns-5 : tie.Need-returns-5
 unfolding decodeRefusal
 returns-5 c =
-    let word = c .before .before in
-    let sized = word .before .before .before in
-    let allowed = sized .before .before .before .before in
-    let ok = test-yes _ _ (allowed .before .is-allowed .ensures) (allowed .if1 .left) in
-    let small = test-yes _ _ (word .before .all-below .ensures ∙ own-symbols _ ok _ _ (word .before .before .symbols-of .ensures)) (word .if4 .left) in (
-      need-yes _ _ _ _ ok (need-yes _ _ _ _ (sized .before .before .if2 .left) (need-yes _ _ _ _ (sized .if3 .left)
-          (need-yes _ _ _ _ small (need-no _ _ _ (test-no _ _ (c .before .all-below2 .ensures) (c .if5 .taken)))))),
+    let sized = c .before .before .before in
+    let ok = test-yes _ _ (sized .before .before .before .before .before .before .before .is-allowed .ensures) (sized .before .before .before .before .before .before .if1 .left) in
+    let small = c .before .all-below .ensures ∙ own-symbols _ ok _ _ (c .before .before .symbols-of .ensures) in (
+      need-yes _ _ _ _ ok (need-yes _ _ _ _ (sized .before .before .before .before .if2 .left) (need-yes _ _ _ _ (sized .before .before .if3 .left)
+          (need-yes _ _ _ _ (sized .if4 .left) (need-no _ _ _ (test-no _ _ small (c .if5 .taken)))))),
       omega arith,
     )
+
+all-below-requires-2 : tie.Need-all-below-requires-2
+all-below-requires-2 c κs = search needs
 
 returns-6 : tie.Need-returns-6
 unfolding decodeRefusal
 returns-6 c =
     let word = c .before .before in
     let sized = word .before .before .before in
-    let allowed = sized .before .before .before .before in
-    let ok = test-yes _ _ (allowed .before .is-allowed .ensures) (allowed .if1 .left) in
-    let small = test-yes _ _ (word .before .all-below .ensures ∙ own-symbols _ ok _ _ (word .before .before .symbols-of .ensures)) (word .if4 .left) in (
-      need-yes _ _ _ _ ok (need-yes _ _ _ _ (sized .before .before .if2 .left) (need-yes _ _ _ _ (sized .if3 .left)
-          (need-yes _ _ _ _ small (need-yes _ _ _ _ (test-yes _ _ (c .before .all-below2 .ensures) (c .if5 .left)) refl)))),
+    let ok = test-yes _ _ (sized .before .before .before .before .before .before .before .is-allowed .ensures) (sized .before .before .before .before .before .before .if1 .left) in
+    let small = test-yes _ _ (word .before .all-below .ensures ∙ own-symbols _ ok _ _ (word .before .before .symbols-of .ensures)) (word .if5 .left) in (
+      need-yes _ _ _ _ ok (need-yes _ _ _ _ (sized .before .before .before .before .if2 .left) (need-yes _ _ _ _ (sized .before .before .if3 .left)
+          (need-yes _ _ _ _ (sized .if4 .left) (need-yes _ _ _ _ small (need-no _ _ _ (test-no _ _ (c .before .all-below2 .ensures) (c .if6 .taken))))))),
+      omega arith,
+    )
+
+returns-7 : tie.Need-returns-7
+unfolding decodeRefusal
+returns-7 c =
+    let word = c .before .before in
+    let sized = word .before .before .before in
+    let ok = test-yes _ _ (sized .before .before .before .before .before .before .before .is-allowed .ensures) (sized .before .before .before .before .before .before .if1 .left) in
+    let small = test-yes _ _ (word .before .all-below .ensures ∙ own-symbols _ ok _ _ (word .before .before .symbols-of .ensures)) (word .if5 .left) in (
+      need-yes _ _ _ _ ok (need-yes _ _ _ _ (sized .before .before .before .before .if2 .left) (need-yes _ _ _ _ (sized .before .before .if3 .left)
+          (need-yes _ _ _ _ (sized .if4 .left) (need-yes _ _ _ _ small (need-yes _ _ _ _ (test-yes _ _ (c .before .all-below2 .ensures) (c .if6 .left)) refl))))),
       omega arith,
     )
 
@@ -82,9 +88,10 @@ decode-refusal-spec =
     returns
     returns-2
     returns-3
+    returns-4
     symbols-of-requires
     all-below-requires
-    returns-4
-    all-below-requires-2
     returns-5
-    returns-6)
+    all-below-requires-2
+    returns-6
+    returns-7)
