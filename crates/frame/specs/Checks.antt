@@ -48,43 +48,46 @@ module _ (f : Framing) (payload slots : List ℕ) where
 
 -- ---- before a frame is received
 
-pub record ReceiveChecked (f : Framing) (slots marks area : List ℕ) : Type 0 where
+pub record ReceiveChecked (f : Framing) (slots marks area map : List ℕ) : Type 0 where
   pub limits : FrameAllowed f
   pub slots-size : length slots ≡ slotCount f
   pub marks-size : length marks ≡ slotCount f
   pub marks-small : T (below 2 marks)
   pub area-size : length area ≡ areaSize f
+  pub map-size : length map ≡ slotCount f
 
-module _ (f : Framing) (slots marks area : List ℕ) where
-  pub receive-setting : allowedFrame f ≡ false → 1 ≡ receiveRefusal f slots marks area
+module _ (f : Framing) (slots marks area map : List ℕ) where
+  pub receive-setting : allowedFrame f ≡ false → 1 ≡ receiveRefusal f slots marks area map
   unfolding receiveRefusal
   receive-setting a = need-no _ _ _ λ t. rw a at t
 
-  pub receive-slots : allowedFrame f ≡ true → (length slots ≡ slotCount f → ⊥) → 2 ≡ receiveRefusal f slots marks area
+  pub receive-slots : allowedFrame f ≡ true → (length slots ≡ slotCount f → ⊥) → 2 ≡ receiveRefusal f slots marks area map
   unfolding receiveRefusal
   receive-slots a n = need-yes _ _ _ _ (rw a tt) (need-no _ _ _ n)
 
-  pub receive-checked : receiveRefusal f slots marks area ≡ 0 → ReceiveChecked f slots marks area
+  pub receive-checked : receiveRefusal f slots marks area map ≡ 0 → ReceiveChecked f slots marks area map
   unfolding receiveRefusal
   receive-checked e =
       let (a, e₁) = need-zero (passes (allowedFrame f)) 1 _ (omega arith) e in
       let (n, e₂) = need-zero (ℕ-discrete (length slots) (slotCount f)) 2 _ (omega arith) e₁ in
       let (m, e₃) = need-zero (ℕ-discrete (length marks) (slotCount f)) 2 _ (omega arith) e₂ in
       let (k, e₄) = need-zero (ℕ-discrete (length area) (areaSize f)) 2 _ (omega arith) e₃ in
-      let (b, _) = need-zero (passes (below 2 marks)) 3 _ (omega arith) e₄ in
-      record { limits = frame-kept f (passed _ a); slots-size = n; marks-size = m; marks-small = b; area-size = k }
+      let (l, e₅) = need-zero (ℕ-discrete (length map) (slotCount f)) 2 _ (omega arith) e₄ in
+      let (b, _) = need-zero (passes (below 2 marks)) 3 _ (omega arith) e₅ in
+      record { limits = frame-kept f (passed _ a); slots-size = n; marks-size = m; marks-small = b; area-size = k; map-size = l }
 
-  pub receive-passes : ReceiveChecked f slots marks area → 0 ≡ receiveRefusal f slots marks area
+  pub receive-passes : ReceiveChecked f slots marks area map → 0 ≡ receiveRefusal f slots marks area map
   unfolding receiveRefusal
   receive-passes c =
       need-yes _ _ _ _ (is-allowed f (c .limits))
-      (need-yes _ _ _ _ (c .slots-size) (need-yes _ _ _ _ (c .marks-size) (need-yes _ _ _ _ (c .area-size) (need-yes _ _ _ _ (c .marks-small) refl))))
+      (need-yes _ _ _ _ (c .slots-size) (need-yes _ _ _ _ (c .marks-size) (need-yes _ _ _ _ (c .area-size) (need-yes _ _ _ _ (c .map-size) (need-yes _ _ _ _ (c .marks-small) refl)))))
 
   -- a refusal is the number of an answer, which has no other numbers
-  pub receive-numbered : 0 < receiveRefusal f slots marks area → (left : List ℕ)
-      → receiveOutcome (refusedWith (receiveRefusal f slots marks area) 0) left ≡ refusedFrame (receiveRefusal f slots marks area) 0 left
+  pub receive-numbered : 0 < receiveRefusal f slots marks area map → (left left-map : List ℕ)
+      → receiveOutcome (refusedWith (receiveRefusal f slots marks area map) 0) left left-map ≡ refusedFrame (receiveRefusal f slots marks area map) 0 left left-map
   unfolding receiveRefusal payloadOf
-  receive-numbered h left =
-      let told : ℕ → Type 0 = λ k. 0 < k → receiveOutcome (refusedWith k 0) left ≡ refusedFrame k 0 left in
+  receive-numbered h left left-map =
+      let told : ℕ → Type 0 = λ k. 0 < k → receiveOutcome (refusedWith k 0) left left-map ≡ refusedFrame k 0 left left-map in
       need-either _ 1 _ told (λ h. refl)
-      (need-either _ 2 _ told (λ h. refl) (need-either _ 2 _ told (λ h. refl) (need-either _ 2 _ told (λ h. refl) (need-either _ 3 0 told (λ h. refl) (λ h. absurd (omega arith)))))) h
+      (need-either _ 2 _ told (λ h. refl) (need-either _ 2 _ told (λ h. refl) (need-either _ 2 _ told (λ h. refl)
+      (need-either _ 2 _ told (λ h. refl) (need-either _ 3 0 told (λ h. refl) (λ h. absurd (omega arith))))))) h

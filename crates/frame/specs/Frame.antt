@@ -1,5 +1,5 @@
--- Document 01, "Block interleaver and frame" and "Numbers a call can answer": a frame's limits, its message area, and what sending and
--- receiving answer and leave, for every input.
+-- Document 01, "Block interleaver and frame" and "Numbers a call can answer", and document 02, No. 6: a frame's limits, its message area, and what
+-- sending and receiving answer and leave, for every input.
 -- Assumes nothing.
 use mathlib.Core.Bool.{Bool, true, false, _&&_, not}
 use mathlib.Core.List.{List, [], _∷_, _++_}
@@ -12,6 +12,7 @@ use Rattle.algebra.specs.Tests.{if_then_else_, at, each, below, firstBelow}
 use Rattle.algebra.specs.Lists.{tabulate, joined, part}
 use Rattle.algebra.specs.Refusal.{need, ifZero, passes}
 use Rattle.word.specs.Setting.{allowed, messageSize}
+use Rattle.word.specs.Map.{changes}
 use Rattle.word.specs.Code.{encoded, corrected}
 use Rattle.word.specs.Answers.{noFigures, figures}
 use Rattle.word.specs.declared.Setting.{Setting}
@@ -144,6 +145,10 @@ module _ (f : Framing) (slots marks : List ℕ) where
   unfoldable pub figuresAt : ℕ → Figures
   figuresAt w = figures (receivedMarks w) (receivedWord w) (wordOf w)
 
+  -- where it was changed
+  unfoldable pub changesAt : ℕ → List ℕ
+  changesAt w = changes (receivedWord w) (wordOf w)
+
   -- the first word that is beyond reach; J where all are within
   unfoldable pub beyond : ℕ
   beyond = firstBelow (f .depth) λ w. isNone (correctedWord w)
@@ -156,6 +161,10 @@ module _ (f : Framing) (slots marks : List ℕ) where
   unfoldable pub figuresReceived : List Figures
   figuresReceived = tabulate 16 λ w. if ltb w (f .depth) then figuresAt w else noFigures
 
+  -- the words' maps, each place in its slot
+  unfoldable pub mapReceived : List ℕ
+  mapReceived = spread (f .depth) (f .n) (joined (f .depth) changesAt)
+
 -- what receiving answers and leaves
 pub record ReceiveOutcome : Type 0 where
   pub number : ℕ
@@ -165,14 +174,15 @@ pub record ReceiveOutcome : Type 0 where
   pub figures : List Figures
   pub area : List ℕ
   pub payload : List ℕ
+  pub map : List ℕ
 
-abbrev pub refusedFrame : ℕ → ℕ → List ℕ → ReceiveOutcome
-refusedFrame k w area = record { number = k; word = w; sequence = 0; back = 0; figures = replicate 16 noFigures; area = area; payload = [] }
+abbrev pub refusedFrame : ℕ → ℕ → (area map : List ℕ) → ReceiveOutcome
+refusedFrame k w area map = record { number = k; word = w; sequence = 0; back = 0; figures = replicate 16 noFigures; area = area; payload = []; map = map }
 
 -- a frame whose words are all within reach: 5, or what its trailer says
-unfoldable pub settled : ℕ → List Figures → List ℕ → ReceiveOutcome
-settled A figures area =
-    if not (trailerGood A area) then refusedFrame 5 0 (replicate A 0) else
+unfoldable pub settled : ℕ → List Figures → (area map : List ℕ) → ReceiveOutcome
+settled A figures area map =
+    if not (trailerGood A area) then refusedFrame 5 0 (replicate A 0) (replicate (length map) 0) else
     record {
       number = 0;
       word = 0;
@@ -181,26 +191,27 @@ settled A figures area =
       figures = figures;
       area = area;
       payload = payloadIn (twoAt area (A - 4)) area;
+      map = map;
     }
 
 -- a frame that passes the checks: 4 where a word is beyond reach
 unfoldable pub decodedFrame : Framing → (slots marks : List ℕ) → ReceiveOutcome
 decodedFrame f slots marks =
-    if ltb (beyond f slots marks) (f .depth) then refusedFrame 4 (beyond f slots marks) (replicate (areaSize f) 0) else
-    settled (areaSize f) (figuresReceived f slots marks) (areaReceived f slots marks)
+    if ltb (beyond f slots marks) (f .depth) then refusedFrame 4 (beyond f slots marks) (replicate (areaSize f) 0) (replicate (slotCount f) 0) else
+    settled (areaSize f) (figuresReceived f slots marks) (areaReceived f slots marks) (mapReceived f slots marks)
 
 -- checked in the order 1, 2, 3; 0 where all are passed
-unfoldable pub receiveRefusal : Framing → (slots marks area : List ℕ) → ℕ
-receiveRefusal f slots marks area =
+unfoldable pub receiveRefusal : Framing → (slots marks area map : List ℕ) → ℕ
+receiveRefusal f slots marks area map =
     need (passes (allowedFrame f)) 1
     (need (ℕ-discrete (length slots) (slotCount f)) 2 (need (ℕ-discrete (length marks) (slotCount f)) 2 (need (ℕ-discrete (length area) (areaSize f)) 2
-    (need (passes (below 2 marks)) 3 0))))
+    (need (ℕ-discrete (length map) (slotCount f)) 2 (need (passes (below 2 marks)) 3 0)))))
 
--- these refusals leave the area
-unfoldable pub receiving : Framing → (slots marks area : List ℕ) → ReceiveOutcome
-receiving f slots marks area =
-    let k = receiveRefusal f slots marks area in
-    ifZero k (decodedFrame f slots marks) (refusedFrame k 0 area)
+-- these refusals leave the area and the map
+unfoldable pub receiving : Framing → (slots marks area map : List ℕ) → ReceiveOutcome
+receiving f slots marks area map =
+    let k = receiveRefusal f slots marks area map in
+    ifZero k (decodedFrame f slots marks) (refusedFrame k 0 area map)
 
 -- ---- the code's answer in this paper's terms
 
@@ -243,10 +254,10 @@ refusedWith k w = record { verdict = verdictAs k w; sequence = 0; back = 0; figu
 unfoldable pub payloadOf : Received → List ℕ → List ℕ
 payloadOf r area = if isDone (r .verdict) then payloadIn (r .back) area else []
 
--- an answer with what it leaves in the area
-abbrev pub receiveOutcome : Received → List ℕ → ReceiveOutcome
-receiveOutcome r area =
-    record { number = numberOf (r .verdict); word = wordNumber (r .verdict); sequence = r .sequence; back = r .back; figures = r .figures; area = area; payload = payloadOf r area }
+-- an answer with what it leaves in the area and in the map
+abbrev pub receiveOutcome : Received → (area map : List ℕ) → ReceiveOutcome
+receiveOutcome r area map =
+    record { number = numberOf (r .verdict); word = wordNumber (r .verdict); sequence = r .sequence; back = r .back; figures = r .figures; area = area; payload = payloadOf r area; map = map }
 
 -- the whole area and the payload, as one call hands both back
 abbrev pub handedBack : ReceiveOutcome → List (List ℕ)

@@ -15,6 +15,7 @@ use Rattle.field.specs.Field.{times, reduce, product, power}
 use Rattle.field.specs.Answers.{isField}
 use Rattle.word.specs.Setting.{allowed}
 use Rattle.word.specs.Word.{valueFrom, errorOf, errors, marked, bits}
+use Rattle.word.specs.Map.{changeOf, changes}
 use Rattle.word.specs.Codeword.{isCodeword, qualifies}
 use Rattle.word.specs.Code.{encoded}
 use Rattle.word.specs.Code.Laws.{corrected-only, encoded-only}
@@ -22,7 +23,7 @@ use Rattle.word.specs.Answers.{noFigures}
 use Rattle.word.specs.declared.Setting.{Setting}
 use Rattle.word.specs.declared.Figures.{Figures}
 use Rattle.interleave.specs.Slots.{spread-rule, word-rule}
-use Rattle.frame.specs.Frame.{allowedFrame, areaSent, wordSent, slotsSent, sending, correctedWord, messageOf, figuresAt, beyond, areaReceived, figuresReceived, zerosBefore, trailerGood, payloadIn, settled, decodedFrame, receiving}
+use Rattle.frame.specs.Frame.{allowedFrame, areaSent, wordSent, slotsSent, sending, correctedWord, messageOf, figuresAt, beyond, areaReceived, figuresReceived, changesAt, mapReceived, zerosBefore, trailerGood, payloadIn, settled, decodedFrame, receiving}
 use Rattle.frame.specs.Frame.Limits.{FrameAllowed, frame-kept}
 use Rattle.frame.specs.Checks.{receive-passes}
 use Rattle.frame.specs.Sending.{send-done}
@@ -90,7 +91,11 @@ found : figuresReceived example slotsIn (replicate 10 0) ≡ figures 1 0 2 ∷ f
 unfolding figuresReceived figuresAt tabulate errorOf errors marked bits total ones onesIn _⊕_
 found = simp (corrected-0, corrected-1, word-rule)
 
-pub received-example : receiving example slotsIn (replicate 10 0) (replicate 6 0) ≡ record {
+map : mapReceived example slotsIn (replicate 10 0) ≡ 0 ∷ 0 ∷ 1 ∷ 1 ∷ replicate 6 0
+unfolding mapReceived changesAt changes changeOf joined tabulate
+map = simp (corrected-0, corrected-1, word-rule, spread-rule)
+
+pub received-example : receiving example slotsIn (replicate 10 0) (replicate 6 0) (replicate 10 0) ≡ record {
   number = 0;
   word = 0;
   sequence = 258;
@@ -98,9 +103,10 @@ pub received-example : receiving example slotsIn (replicate 10 0) (replicate 6 0
   figures = figures 1 0 2 ∷ figures 1 0 1 ∷ replicate 14 noFigures;
   area = 0 ∷ 65 ∷ 1 ∷ 0 ∷ 2 ∷ 1 ∷ [];
   payload = 65 ∷ [];
+  map = 0 ∷ 0 ∷ 1 ∷ 1 ∷ replicate 6 0;
 }
 unfolding receiving decodedFrame below settled trailerGood zerosBefore each payloadIn
 received-example =
-    let passed = receive-passes example slotsIn (replicate 10 0) (replicate 6 0)
-    (record { limits = example-allowed; slots-size = refl; marks-size = refl; marks-small = tt; area-size = refl }) in
-    sym (new _ _ _ (sym passed)) ∙ rw (within-reach, area, found)
+    let passed = receive-passes example slotsIn (replicate 10 0) (replicate 6 0) (replicate 10 0)
+    (record { limits = example-allowed; slots-size = refl; marks-size = refl; marks-small = tt; area-size = refl; map-size = refl }) in
+    sym (new _ _ _ (sym passed)) ∙ rw (within-reach, area, found, map)

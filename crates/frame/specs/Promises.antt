@@ -18,8 +18,8 @@ pub record Sends (f : Framing) (payload : List ℕ) (sequence : ℕ) (slots : Li
   pub outcome : sendOutcome d left ≡ sending f payload sequence slots
 
 -- `receive`
-pub record Receives (f : Framing) (slots marks area : List ℕ) (r : Received) (left : List ℕ) : Type 0 where
-  pub outcome : receiveOutcome r left ≡ receiving f slots marks area
+pub record Receives (f : Framing) (slots marks area map : List ℕ) (r : Received) (left left-map : List ℕ) : Type 0 where
+  pub outcome : receiveOutcome r left left-map ≡ receiving f slots marks area map
 
 -- `payload`
 pub record HandsBack (area : List ℕ) (answer : Received) (part : List ℕ) : Type 0 where
@@ -51,8 +51,8 @@ verdict-as BadMark = refl
 verdict-as (BeyondReach w) = refl
 verdict-as BadTrailer = refl
 
-pub receives-once : {f : Framing} {slots marks area : List ℕ} {r s : Received} {x y : List ℕ}
-    → Receives f slots marks area r x → Receives f slots marks area s y → (r ≡ s) × (x ≡ y)
+pub receives-once : {f : Framing} {slots marks area map : List ℕ} {r s : Received} {x y u v : List ℕ}
+    → Receives f slots marks area map r x u → Receives f slots marks area map s y v → (r ≡ s) × (x ≡ y) × (u ≡ v)
 receives-once {r = r} {s = s} p q =
     let same = p .outcome ∙ sym (q .outcome) in (
       λ i. record {
@@ -62,6 +62,7 @@ receives-once {r = r} {s = s} p q =
         figures = same i .figures;
       },
       ap (λ (o : ReceiveOutcome). o .area) same,
+      ap (λ (o : ReceiveOutcome). o .map) same,
     )
 
 pub hands-back-once : {area : List ℕ} {answer : Received} {x y : List ℕ} → HandsBack area answer x → HandsBack area answer y → x ≡ y

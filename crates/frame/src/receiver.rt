@@ -1,14 +1,15 @@
 // Receiving a frame: document 01, section Block interleaver and frame. Its words are decoded into a lent message area, which then holds the
-// payload.
+// payload; and where they were changed goes to a lent map, slot by slot: document 02, No. 6.
 ghost use mathlib.Core.Path.{_≡_};
 ghost use Prim.Native.Nat.{_≤_};
 ghost use lib.ListN.{length, replicate};
 ghost use Rattle.word.specs.Looking.{Tabled};
-ghost use Rattle.interleave.specs.Slots.{HasWord, TakesWord};
+ghost use Rattle.interleave.specs.Slots.{HasWord, TakesWord, PutsWord};
 ghost use Rattle.frame.specs.Frame.{wordSetting, receiveOutcome, refusedWith, settled, decodedFrame, receiveRefusal};
 ghost use Rattle.frame.specs.Promises.{Receives};
 ghost use Rattle.frame.specs.Checks.{ReceiveChecked};
-ghost use Rattle.frame.specs.Decoding.{foundOf, Plain, WordGiven, WordFound, Collected};
+ghost use Rattle.frame.specs.Mapping.{Blank, Spare};
+ghost use Rattle.frame.specs.Decoding.{foundOf, Plain, WordGiven, WordPut, Collected};
 use crate::numbers::verdict_as;
 use crate::setting::Framing;
 use crate::setting::Received;
@@ -19,6 +20,8 @@ use crate::trailer::is_good;
 use crate::trailer::two_at;
 use buffers::all_below;
 use buffers::fill;
+use buffers::work_space;
+use interleave::slots::put_word;
 use interleave::slots::take_word;
 use word::Decoded;
 use word::Figures;
@@ -69,7 +72,18 @@ fn marks_of(f: Framing, plain: bool, w: usize, marks: &[u8]) -> [u8; 255]
     take_word(f.depth, f.n, w, marks)
 }
 
-// Decodes word w into its part of the area, by the tables of all words.
+// Puts a word's map into its slots of the frame's, which are 0 before. Without changed bits it is all 0, and there is nothing to put.
+fn put_changes(f: Framing, w: usize, bits: u16, changed: &[u8], map: &mut [u8])
+    requires { ⌜ HasWord (f .depth) (f .n) w (length (now map)) × Blank (f .depth) w (now map) × Spare bits (f .n) (now changed) ⌝ }
+    ensures { λ _. ⌜ PutsWord (f .depth) w (now (changed .entry)) (now (map .entry)) (now (map .exit)) ⌝ }
+{
+    if bits == 0 {
+        return;
+    }
+    put_word(f.depth, w, changed, map);
+}
+
+// Decodes word w into its part of the area, by the tables of all words, and maps where it was changed.
 fn receive_word(
     f: Framing,
     low: &[u64; 128],
@@ -79,17 +93,30 @@ fn receive_word(
     slots: &[u8],
     marks: &[u8],
     part: &mut [u8],
+    map: &mut [u8],
 ) -> Found
-    requires { ⌜ WordGiven f w (now slots) (now marks) (now part) × Tabled (wordSetting f) (now low) (now high) × Plain plain (now marks) ⌝ }
-    ensures { λ r. ⌜ WordFound f w (now (slots .entry)) (now (marks .entry)) r (now (part .exit)) ⌝ }
+    requires { ⌜ WordGiven f w (now slots) (now marks) (now part) (now map) × Tabled (wordSetting f) (now low) (now high) × Plain plain (now marks) ⌝ }
+    ensures { λ r. ⌜ WordPut f w (now (slots .entry)) (now (marks .entry)) (now (map .entry)) r (now (part .exit)) (now (map .exit)) ⌝ }
 {
     let word = take_word(f.depth, f.n, w, slots);
     let marked = marks_of(f, plain, w, marks);
-    let d = decode_part_by(words_of(f), low, high, &word[..f.n], &marked[..f.n], part);
-    without_reason(d)
+    let mut room = work_space();
+    let changed = &mut room[..f.n];
+    let d = decode_part_by(
+        words_of(f),
+        low,
+        high,
+        &word[..f.n],
+        &marked[..f.n],
+        part,
+        changed,
+    );
+    let found = without_reason(d);
+    put_changes(f, w, found.figures.bits, changed, map);
+    found
 }
 
-// Decodes each word into its part of the area, up to the first that is refused.
+// Decodes each word into its part of the area and its slots of the map, which is cleared before, up to the first that is refused.
 fn receive_words(
     f: Framing,
     low: &[u64; 128],
@@ -98,15 +125,18 @@ fn receive_words(
     slots: &[u8],
     marks: &[u8],
     area: &mut [u8],
+    map: &mut [u8],
 ) -> Words
-    requires { ⌜ ReceiveChecked f (now slots) (now marks) (now area) × Tabled (wordSetting f) (now low) (now high) × Plain plain (now marks) ⌝ }
-    ensures { λ r. ⌜ Collected f (now (slots .entry)) (now (marks .entry)) r (now (area .exit)) ⌝ }
+    requires { ⌜ ReceiveChecked f (now slots) (now marks) (now area) (now map) × Tabled (wordSetting f) (now low) (now high) × Plain plain (now marks) ⌝ }
+    ensures { λ r. ⌜ Collected f (now (slots .entry)) (now (marks .entry)) r (now (area .exit)) (now (map .exit)) ⌝ }
 {
+    fill(map, 0);
     let k = f.n - f.r;
     let mut figures = [no_figures(); 16];
     for w in 0..f.depth {
         let a = w * k;
-        let found = receive_word(f, low, high, plain, w, slots, marks, &mut area[a..a + k]);
+        let part = &mut area[a..a + k];
+        let found = receive_word(f, low, high, plain, w, slots, marks, part, map);
         if !found.accepted {
             return Words {
                 accepted: w,
@@ -120,6 +150,14 @@ fn receive_words(
         accepted: f.depth,
         figures,
     }
+}
+
+// What a frame leaves that is refused once it has been decoded: zeros.
+fn clear(whole: &mut [u8], changed: &mut [u8])
+    ensures { λ _. ⌜ (now (whole .exit) ≡ replicate (length (now (whole .entry))) 0) × (now (changed .exit) ≡ replicate (length (now (changed .entry))) 0) ⌝ }
+{
+    fill(whole, 0);
+    fill(changed, 0);
 }
 
 // The answer of a frame that is refused with this number, and this word where it is 4.
@@ -136,12 +174,12 @@ fn refused(number: u8, word: u8) -> Received
 }
 
 // The answer of a frame whose words are all accepted: what its trailer says.
-fn settle(whole: &mut [u8], figures: [Figures; 16]) -> Received
+fn settle(whole: &mut [u8], map: &mut [u8], figures: [Figures; 16]) -> Received
     requires { ⌜ 4 ≤ length (now whole) ⌝ }
-    ensures { λ r. ⌜ receiveOutcome r (now (whole .exit)) ≡ settled (length (now (whole .entry))) figures (now (whole .entry)) ⌝ }
+    ensures { λ r. ⌜ receiveOutcome r (now (whole .exit)) (now (map .exit)) ≡ settled (length (now (whole .entry))) figures (now (whole .entry)) (now (map .entry)) ⌝ }
 {
     if !is_good(whole) {
-        fill(whole, 0);
+        clear(whole, map);
         return refused(5, 0);
     }
     let end = whole.len() - 4;
@@ -154,26 +192,32 @@ fn settle(whole: &mut [u8], figures: [Figures; 16]) -> Received
 }
 
 // Decodes a frame that has passed the checks. Its words have one setting, so they have their tables in common.
-fn receive_checked(f: Framing, slots: &[u8], marks: &[u8], area: &mut [u8]) -> Received
-    requires { ⌜ ReceiveChecked f (now slots) (now marks) (now area) ⌝ }
-    ensures { λ r. ⌜ receiveOutcome r (now (area .exit)) ≡ decodedFrame f (now (slots .entry)) (now (marks .entry)) ⌝ }
+fn receive_checked(
+    f: Framing,
+    slots: &[u8],
+    marks: &[u8],
+    area: &mut [u8],
+    map: &mut [u8],
+) -> Received
+    requires { ⌜ ReceiveChecked f (now slots) (now marks) (now area) (now map) ⌝ }
+    ensures { λ r. ⌜ receiveOutcome r (now (area .exit)) (now (map .exit)) ≡ decodedFrame f (now (slots .entry)) (now (marks .entry)) ⌝ }
 {
     let mut low = no_table();
     let mut high = no_table();
     prepare(words_of(f), &mut low, &mut high);
     let plain = all_below(marks, 1);
-    let words = receive_words(f, &low, &high, plain, slots, marks, area);
+    let words = receive_words(f, &low, &high, plain, slots, marks, area, map);
     if words.accepted < f.depth {
-        fill(area, 0);
+        clear(area, map);
         return refused(4, words.accepted as u8);
     }
     let figures = words.figures;
-    settle(area, figures)
+    settle(area, map, figures)
 }
 
 // The number by which a frame is refused before it is decoded, or 0. The setting comes first: within its limits the lengths fit.
-fn receive_refusal(f: Framing, slots: &[u8], marks: &[u8], area: &[u8]) -> u8
-    ensures { λ r. ⌜ r ≡ receiveRefusal f (now (slots .entry)) (now (marks .entry)) (now (area .entry)) ⌝ }
+fn receive_refusal(f: Framing, slots: &[u8], marks: &[u8], area: &[u8], map: &[u8]) -> u8
+    ensures { λ r. ⌜ r ≡ receiveRefusal f (now (slots .entry)) (now (marks .entry)) (now (area .entry)) (now (map .entry)) ⌝ }
 {
     if !is_allowed(f) {
         return 1;
@@ -187,20 +231,24 @@ fn receive_refusal(f: Framing, slots: &[u8], marks: &[u8], area: &[u8]) -> u8
     if area.len() != f.depth * (f.n - f.r) {
         return 2;
     }
+    if map.len() != f.n * f.depth {
+        return 2;
+    }
     if !all_below(marks, 2) {
         return 3;
     }
     0
 }
 
-// Decodes a received frame into the lent area of A bytes; its slots and marks are only read. A frame that is beyond reach or has a bad
-// trailer leaves zeros in the area, and any other refusal leaves it as it was.
-pub fn receive(f: Framing, slots: &[u8], marks: &[u8], area: &mut [u8]) -> Received
-    ensures { λ r. ⌜ Receives f (now (slots .entry)) (now (marks .entry)) (now (area .entry)) r (now (area .exit)) ⌝ }
+// Decodes a received frame into the lent area of A bytes; its slots and marks are only read. The map, which has a mark for each slot, gets 1
+// where a slot was changed, and 0 elsewhere. A frame that is beyond reach or has a bad trailer leaves zeros in the area and in the map, and any
+// other refusal leaves both as they were.
+pub fn receive(f: Framing, slots: &[u8], marks: &[u8], area: &mut [u8], map: &mut [u8]) -> Received
+    ensures { λ r. ⌜ Receives f (now (slots .entry)) (now (marks .entry)) (now (area .entry)) (now (map .entry)) r (now (area .exit)) (now (map .exit)) ⌝ }
 {
-    let number = receive_refusal(f, slots, marks, area);
+    let number = receive_refusal(f, slots, marks, area, map);
     if number != 0 {
         return refused(number, 0);
     }
-    receive_checked(f, slots, marks, area)
+    receive_checked(f, slots, marks, area, map)
 }

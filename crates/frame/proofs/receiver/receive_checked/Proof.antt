@@ -3,7 +3,6 @@
 -- Assumes nothing.
 use mathlib.Core.Path.{_≡_, sym, _∙_}
 use native.Mathlib.Omega.{arith}
-use lib.ListN.{length}
 use Rattle.frame.specs.Decoding.{plain-if}
 use Rattle.frame.specs.Receiving.{decoded-beyond, decoded-settled}
 use borrow.Author.Needs.{needs}
@@ -21,22 +20,20 @@ words-of-requires c κs = search needs
 
 prepare-requires : tie.Need-prepare-requires
 prepare-requires c κs =
-    let words = c .before .before .before .before .before .before .before .before .pre .limits .words in
+    let words = c .before .before .before .before .before .before .before .before .before .pre .limits .words in
     rw (c .before .before .words-of .ensures) (words .start, words .high, c .before .before .before .before .no-table .ensures, c .before .before .before .no-table2 .ensures)
 
 all-below-requires : tie.Need-all-below-requires
 all-below-requires c κs = search needs
 
 receive-words-requires : tie.Need-receive-words-requires
-receive-words-requires c κs =
-    let prepared = c .before .before .before .before in
-    (c .before .before .before .before .before .before .before .before .before .before .before .before .before .pre, rw (prepared .before .before .before .words-of .ensures) at (prepared .prepare .ensures), plain-if _ _ (c .before .before .before .all-below .ensures))
+receive-words-requires c κs = (c .before .before .before .before .before .before .before .before .before .before .before .before .before .before .before .pre, rw (c .before .before .before .before .before .before .before .before .words-of .ensures) at (c .before .before .before .before .before .prepare .ensures), plain-if _ _ (c .before .before .before .before .all-below .ensures))
 
-fill-requires : tie.Need-fill-requires
-fill-requires c κs = search needs
+clear-requires : tie.Need-clear-requires
+clear-requires c κs = search needs
 
 cast-refused : tie.Need-cast-refused
-cast-refused c = omega (arith, c .before .before .before .before .before .before .before .before .before .before .before .before .before .before .before .before .before .before .before .before .before .before .before .before .pre .limits .few)
+cast-refused c = omega (arith, c .before .before .before .before .before .before .before .before .before .before .before .before .before .before .before .before .before .before .before .before .before .before .before .before .before .before .before .before .before .before .before .pre .limits .few)
 
 refused-requires : tie.Need-refused-requires
 refused-requires c κs = search needs
@@ -44,34 +41,36 @@ refused-requires c κs = search needs
 same-length : tie.Need-same-length
 same-length c = search needs
 
-returns : tie.Need-returns
-returns c =
-    let filled = c .before .before .before .before in
-    let lost = c .before .before .before .before .before .before in
-    let words = c .before .before .before .before .before .before .before .before .before .before .before in
-    let start = c .before .before .before .before .before .before .before .before .before .before .before .before .before .before .before .before .before .before .before .before .before .before .before .before .before in
-    let size : length (words .receive-words .last .1 .1 .1 .1 .1 .1 .0) ≡ length (start .args .area .now) = search needs in
-    rw (c .refused .ensures, filled .fill .ensures) (decoded-beyond _ _ _ _ (words .receive-words .ensures .first) (lost .if1 .taken) _ (size ∙ start .pre .area-size))
-
-settle-requires : tie.Need-settle-requires
-settle-requires c κs =
-    let given = c .before .before .before .before .before .before .before .before .before .before .before .before .before .before .before .before .before .before .before .before .before .pre in
-    omega (arith, given .limits .room, given .area-size)
-
 same-length-2 : tie.Need-same-length-2
 same-length-2 c = search needs
 
+returns : tie.Need-returns
+returns c =
+    let cleared = c .before .before .before .before .before .before .clear .ensures in
+    let words = c .before .before .before .before .before .before .before .before .before .before .before .before .before .before .before .before in
+    let start = c .before .before .before .before .before .before .before .before .before .before .before .before .before .before .before .before .before .before .before .before .before .before .before .before .before .before .before .before .before .before .before .before in
+    rw (c .refused .ensures, cleared .0, cleared .1)
+    (decoded-beyond _ _ _ _ (words .receive-words .ensures .first) (c .before .before .before .before .before .before .before .before .before .if1 .taken) _ _ (words .receive-words .kept .1 .1 .1 .1 .1 .1 .0 ∙ start .pre .area-size) (words .receive-words .kept .1 .1 .1 .1 .1 .1 .1 .0 ∙ start .pre .map-size))
+
+settle-requires : tie.Need-settle-requires
+settle-requires c κs =
+    let given = c .before .before .before .before .before .before .before .before .before .before .before .before .before .before .before .before .before .before .before .before .before .before .before .before .before .before .pre in
+    omega (arith, given .limits .room, given .area-size)
+
+same-length-3 : tie.Need-same-length-3
+same-length-3 c = search needs
+
+same-length-4 : tie.Need-same-length-4
+same-length-4 c = search needs
+
 returns-2 : tie.Need-returns-2
 returns-2 c =
-    let settled = c .before .before in
-    let whole = c .before .before .before .before .before in
-    let words = c .before .before .before .before .before .before .before .before .before .before in
-    let start = c .before .before .before .before .before .before .before .before .before .before .before .before .before .before .before .before .before .before .before .before .before .before .before .before in
+    let words = c .before .before .before .before .before .before .before .before .before .before .before .before .before .before .before in
+    let start = c .before .before .before .before .before .before .before .before .before .before .before .before .before .before .before .before .before .before .before .before .before .before .before .before .before .before .before .before .before .before .before in
     let told = words .receive-words .ensures in
-    let all : words .receive-words .result .accepted ≡ start .args .f .depth = omega (arith, told .most, whole .if1 .left) in
-    let size : length (words .receive-words .last .1 .1 .1 .1 .1 .1 .0) ≡ length (start .args .area .now) = search needs in
-    settled .settle .ensures
-    ∙ decoded-settled _ _ _ (sym (told .first) ∙ all) _ _ _ (size ∙ start .pre .area-size) (told .all all .0) (told .all all .1)
+    let all : words .receive-words .result .accepted ≡ start .args .f .depth = omega (arith, told .most, c .before .before .before .before .before .before .before .before .if1 .left) in
+    c .before .before .before .before .settle .ensures
+    ∙ decoded-settled _ _ _ (sym (told .first) ∙ all) _ _ _ _ (words .receive-words .kept .1 .1 .1 .1 .1 .1 .0 ∙ start .pre .area-size) (told .all all .0) (told .all all .1) (told .all all .2)
 
 pub receive-checked-spec : {M : Type 1} → statement M
 receive-checked-spec =
@@ -83,11 +82,13 @@ receive-checked-spec =
     prepare-requires
     all-below-requires
     receive-words-requires
-    fill-requires
+    clear-requires
     cast-refused
     refused-requires
     same-length
+    same-length-2
     returns
     settle-requires
-    same-length-2
+    same-length-3
+    same-length-4
     returns-2)

@@ -58,28 +58,34 @@ returns-4 c =
     let allowed = sized .before .before in
     need-yes _ _ _ _ (test-yes _ _ (allowed .before .is-allowed .ensures) (allowed .if1 .left)) (need-yes _ _ _ _ (sized .if2 .left) (need-yes _ _ _ _ (marked .if3 .left) (need-no _ _ _ (c .if4 .taken))))
 
-all-below-requires : tie.Need-all-below-requires
-all-below-requires c κs = search needs
+mul-if5 : tie.Need-mul-if5
+mul-if5 c = omega (arith, slots-few _ (frame-kept _ (passed _ (test-yes _ _ (c .before .before .before .before .before .before .before .before .before .is-allowed .ensures) (c .before .before .before .before .before .before .before .before .if1 .left)))))
 
 returns-5 : tie.Need-returns-5
 unfolding receiveRefusal
 returns-5 c =
-    let whole = c .before .before in
-    let marked = whole .before .before .before in
-    let sized = marked .before .before in
-    let allowed = sized .before .before in
-    need-yes _ _ _ _ (test-yes _ _ (allowed .before .is-allowed .ensures) (allowed .if1 .left))
-    (need-yes _ _ _ _ (sized .if2 .left) (need-yes _ _ _ _ (marked .if3 .left) (need-yes _ _ _ _ (whole .if4 .left) (need-no _ _ _ (test-no _ _ (c .before .all-below .ensures) (c .if5 .taken))))))
+    let sized = c .before .before in
+    need-yes _ _ _ _ (test-yes _ _ (sized .before .before .before .before .before .before .before .before .is-allowed .ensures) (sized .before .before .before .before .before .before .before .if1 .left))
+    (need-yes _ _ _ _ (sized .before .before .before .before .before .if2 .left) (need-yes _ _ _ _ (sized .before .before .before .if3 .left) (need-yes _ _ _ _ (sized .if4 .left) (need-no _ _ _ (c .if5 .taken)))))
+
+all-below-requires : tie.Need-all-below-requires
+all-below-requires c κs = search needs
 
 returns-6 : tie.Need-returns-6
 unfolding receiveRefusal
 returns-6 c =
-    let whole = c .before .before in
-    let marked = whole .before .before .before in
-    let sized = marked .before .before in
-    let allowed = sized .before .before in
-    need-yes _ _ _ _ (test-yes _ _ (allowed .before .is-allowed .ensures) (allowed .if1 .left))
-    (need-yes _ _ _ _ (sized .if2 .left) (need-yes _ _ _ _ (marked .if3 .left) (need-yes _ _ _ _ (whole .if4 .left) (need-yes _ _ _ _ (test-yes _ _ (c .before .all-below .ensures) (c .if5 .left)) refl))))
+    let sized = c .before .before .before .before in
+    need-yes _ _ _ _ (test-yes _ _ (sized .before .before .before .before .before .before .before .before .is-allowed .ensures) (sized .before .before .before .before .before .before .before .if1 .left))
+    (need-yes _ _ _ _ (sized .before .before .before .before .before .if2 .left) (need-yes _ _ _ _ (sized .before .before .before .if3 .left) (need-yes _ _ _ _ (sized .if4 .left) (need-yes _ _ _ _ (c .before .before .if5 .left)
+    (need-no _ _ _ (test-no _ _ (c .before .all-below .ensures) (c .if6 .taken)))))))
+
+returns-7 : tie.Need-returns-7
+unfolding receiveRefusal
+returns-7 c =
+    let sized = c .before .before .before .before in
+    need-yes _ _ _ _ (test-yes _ _ (sized .before .before .before .before .before .before .before .before .is-allowed .ensures) (sized .before .before .before .before .before .before .before .if1 .left))
+    (need-yes _ _ _ _ (sized .before .before .before .before .before .if2 .left) (need-yes _ _ _ _ (sized .before .before .before .if3 .left) (need-yes _ _ _ _ (sized .if4 .left) (need-yes _ _ _ _ (c .before .before .if5 .left)
+    (need-yes _ _ _ _ (test-yes _ _ (c .before .all-below .ensures) (c .if6 .left)) refl)))))
 
 pub receive-refusal-spec : {M : Type 1} → statement M
 receive-refusal-spec =
@@ -94,6 +100,8 @@ receive-refusal-spec =
     sub-if4
     mul-if4
     returns-4
-    all-below-requires
+    mul-if5
     returns-5
-    returns-6)
+    all-below-requires
+    returns-6
+    returns-7)
