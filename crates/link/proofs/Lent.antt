@@ -1,7 +1,7 @@
--- A lent record that hearing a frame updates where it stands: `let t = g(*lent, f, slots, marks, area); *lent = t.next; t.answer`. One walk of
+-- A lent record that hearing a frame updates where it stands: `let t = g(*lent, f, slots, marks, area, map); *lent = t.next; t.answer`. One walk of
 -- that MIR serves every record, framing and answer that are structs of plain data, and every g whose promise is
--- `Said before f slots marks area answer next left`: the record's borrow is opened, the record is copied out and passed to g, the record that
--- it gives is stored over it and its answer handed on, and the borrow is closed.
+-- `Said before f slots marks area map answer next left left-map`: the record's borrow is opened, the record is copied out and passed to g, the record
+-- that it gives is stored over it and its answer handed on, and the borrow is closed.
 -- Assumes nothing.
 use mathlib.Core.Path.{_≡_, refl, ap}
 use Prim.Native.Nat.{ℕ}
@@ -46,7 +46,7 @@ use Rattle.link.proofs.Plain.{Plain, Data, Row, laid, mach, slice, Ref,
 -- the record, the framing and the answer; the struct of the next record and the answer that g gives; and what g promises
 module _ (T F N : Plain) (quiet : (x : Data F) (w : Last (Row F .exit yes) x) → left (Row F .exit yes) x w ≡ ftrue)
     (name : Sym) (D : Type 0) (next : D → Data T) (answer : D → Data N) (one : ByParts T N D next answer)
-    (Said : Data T → Data F → List ℕ → List ℕ → List ℕ → Data N → Data T → List ℕ → Type 0) where
+    (Said : Data T → Data F → (slots marks area map : List ℕ) → Data N → Data T → (left left-map : List ℕ) → Type 0) where
   abbrev Both : Declared
   Both = bothOf T N name D next answer one
 
@@ -62,16 +62,23 @@ module _ (T F N : Plain) (quiet : (x : Data F) (w : Last (Row F .exit yes) x) �
       record {
         signature =
             record {
-              lifetimes = 3;
+              lifetimes = 4;
               outlives = [];
-              params = plain (λ _. Row T) ∷ plain (λ _. Row F) ∷ shrSliceOf (0 ∷ []) tt (plain (λ _. u8)) ∷ shrSliceOf (1 ∷ []) tt (plain (λ _. u8)) ∷ mutSliceOf (2 ∷ []) tt (plain (λ _. u8)) ∷ [];
+              params =
+                  plain (λ _. Row T) ∷ plain (λ _. Row F)
+                  ∷ shrSliceOf (0 ∷ []) tt (plain (λ _. u8)) ∷ shrSliceOf (1 ∷ []) tt (plain (λ _. u8)) ∷ mutSliceOf (2 ∷ []) tt (plain (λ _. u8)) ∷ mutSliceOf (3 ∷ []) tt (plain (λ _. u8)) ∷ [];
               result = plain (λ _. B);
             };
-        kept = (yes, (yes, (yes, (yes, (yes, tt)))));
+        kept = (yes, (yes, (yes, (yes, (yes, (yes, tt))))));
       }
 
   abbrev answers : {M : Type 1} (𝓤 : URA M) → Clauses 𝓤 called
-  answers 𝓤 κs a = record { ghost = Unit {0}; requires = λ _. emp 𝓤; ensures = λ _ t e. fact 𝓤 (Said (a .0) (a .1 .0) (a .1 .1 .0 .now) (a .1 .1 .1 .0 .now) (a .1 .1 .1 .1 .0 .now) (answer t) (next t) (e .1 .1 .1 .1 .0 .now)) }
+  answers 𝓤 κs a =
+      record {
+        ghost = Unit {0};
+        requires = λ _. emp 𝓤;
+        ensures = λ _ t e. fact 𝓤 (Said (a .0) (a .1 .0) (a .1 .1 .0 .now) (a .1 .1 .1 .0 .now) (a .1 .1 .1 .1 .0 .now) (a .1 .1 .1 .1 .1 .0 .now) (answer t) (next t) (e .1 .1 .1 .1 .0 .now) (e .1 .1 .1 .1 .1 .0 .now));
+      }
 
   abbrev G : {M : Type 1} (𝓤 : URA M) (H : Heap 𝓤) (A : Atoms 𝓤) → Contract 𝓤
   G 𝓤 H A = tripleOf 𝓤 H A (called .signature) (closing 𝓤 H A called (answers 𝓤))
@@ -82,56 +89,63 @@ module _ (T F N : Plain) (quiet : (x : Data F) (w : Last (Row F .exit yes) x) �
       record {
         signature =
             record {
-              lifetimes = 4;
+              lifetimes = 5;
               outlives = [];
-              params = mutRefTo (0 ∷ []) tt (plain (λ _. Row T)) ∷ plain (λ _. Row F) ∷ shrSliceOf (1 ∷ []) tt (plain (λ _. u8)) ∷ shrSliceOf (2 ∷ []) tt (plain (λ _. u8)) ∷ mutSliceOf (3 ∷ []) tt (plain (λ _. u8)) ∷ [];
+              params =
+                  mutRefTo (0 ∷ []) tt (plain (λ _. Row T)) ∷ plain (λ _. Row F)
+                  ∷ shrSliceOf (1 ∷ []) tt (plain (λ _. u8)) ∷ shrSliceOf (2 ∷ []) tt (plain (λ _. u8)) ∷ mutSliceOf (3 ∷ []) tt (plain (λ _. u8)) ∷ mutSliceOf (4 ∷ []) tt (plain (λ _. u8)) ∷ [];
               result = plain (λ _. Row N);
             };
-        kept = (yes, (yes, (yes, (yes, (yes, tt)))));
+        kept = (yes, (yes, (yes, (yes, (yes, (yes, tt))))));
       }
 
   abbrev updates : {M : Type 1} (𝓤 : URA M) → Clauses 𝓤 lent
-  updates 𝓤 κs a = record { ghost = Unit {0}; requires = λ _. emp 𝓤; ensures = λ _ r e. fact 𝓤 (Said (a .0 .now) (a .1 .0) (a .1 .1 .0 .now) (a .1 .1 .1 .0 .now) (a .1 .1 .1 .1 .0 .now) r (e .0 .now) (e .1 .1 .1 .1 .0 .now)) }
+  updates 𝓤 κs a =
+      record {
+        ghost = Unit {0};
+        requires = λ _. emp 𝓤;
+        ensures = λ _ r e. fact 𝓤 (Said (a .0 .now) (a .1 .0) (a .1 .1 .0 .now) (a .1 .1 .1 .0 .now) (a .1 .1 .1 .1 .0 .now) (a .1 .1 .1 .1 .1 .0 .now) r (e .0 .now) (e .1 .1 .1 .1 .0 .now) (e .1 .1 .1 .1 .1 .0 .now));
+      }
 
   abbrev function : Name → Fn
   function g =
       record {
-        lifetimes = 4;
+        lifetimes = 5;
         outlives = [];
-        params = 5;
+        params = 6;
         locals =
-            local (laid N) valueLocal ∷ local (tyRef (named 0) mut (tyNamed (T .type .name, T .type .args))) valueLocal ∷ local (laid F) valueLocal ∷ local (slice (tyRef (named 1) imm (tyInt w8))) valueLocal
-            ∷ local (slice (tyRef (named 2) imm (tyInt w8))) valueLocal ∷ local (slice (tyRef (named 3) mut (tyInt w8))) valueLocal ∷ local (layout (shape Both)) valueLocal ∷ local (laid T) valueLocal
-            ∷ local (tyRef erased mut (tyInt w8)) valueLocal ∷ local (slice (tyRef erased mut (tyInt w8))) valueLocal ∷ [];
+            local (laid N) valueLocal ∷ local (tyRef (named 0) mut (tyNamed (T .type .name, T .type .args))) valueLocal ∷ local (laid F) valueLocal ∷ local (slice (tyRef (named 1) imm (tyInt w8))) valueLocal ∷ local (slice (tyRef (named 2) imm (tyInt w8))) valueLocal ∷ local (slice (tyRef (named 3) mut (tyInt w8))) valueLocal ∷ local (slice (tyRef (named 4) mut (tyInt w8))) valueLocal ∷ local (layout (shape Both)) valueLocal ∷ local (laid T) valueLocal ∷ local (tyRef erased mut (tyInt w8)) valueLocal ∷ local (slice (tyRef erased mut (tyInt w8))) valueLocal ∷ local (tyRef erased mut (tyInt w8)) valueLocal ∷ local (slice (tyRef erased mut (tyInt w8))) valueLocal ∷ [];
         body =
-            seq (assign (place 7 []) (rvOpd (copy (place 1 (deref (laid T) ∷ [])))))
-            (seq (assign (place 8 []) (addrOf (place 5 (part 0 ∷ deref (tyInt w8) ∷ []))))
-            (seq (assign (place 9 []) (aggregate (copy (place 8 []) ∷ copy (place 5 (part 1 ∷ [])) ∷ [])))
-            (seq (call g (copy (place 7 []) ∷ copy (place 2 []) ∷ copy (place 3 []) ∷ copy (place 4 []) ∷ copy (place 9 []) ∷ []) (place 6 []))
-            (seq (assign (place 1 (deref (laid T) ∷ [])) (rvOpd (copy (place 6 (part 0 ∷ [])))))
-            (seq (assign (place 0 []) (rvOpd (copy (place 6 (part 1 ∷ []))))) return)))));
+            seq (assign (place 8 []) (rvOpd (copy (place 1 (deref (laid T) ∷ [])))))
+            (seq (assign (place 9 []) (addrOf (place 5 (part 0 ∷ deref (tyInt w8) ∷ []))))
+            (seq (assign (place 10 []) (aggregate (copy (place 9 []) ∷ copy (place 5 (part 1 ∷ [])) ∷ [])))
+            (seq (assign (place 11 []) (addrOf (place 6 (part 0 ∷ deref (tyInt w8) ∷ []))))
+            (seq (assign (place 12 []) (aggregate (copy (place 11 []) ∷ copy (place 6 (part 1 ∷ [])) ∷ [])))
+            (seq (call g (copy (place 8 []) ∷ copy (place 2 []) ∷ copy (place 3 []) ∷ copy (place 4 []) ∷ copy (place 10 []) ∷ copy (place 12 []) ∷ []) (place 7 []))
+            (seq (assign (place 1 (deref (laid T) ∷ [])) (rvOpd (copy (place 7 (part 0 ∷ [])))))
+            (seq (assign (place 0 []) (rvOpd (copy (place 7 (part 1 ∷ []))))) return)))))));
       }
 
   abbrev stayed : Stays (lent .signature .params) (lent .kept)
-  stayed = (stay-ref (0 ∷ []) tt (plain (λ _. Row T)), (stay-none (λ _. Row F) yes, (stay-none-slice (1 ∷ []) tt (plain (λ _. u8)) yes, (stay-none-slice (2 ∷ []) tt (plain (λ _. u8)) yes, (gave-slice (3 ∷ []) tt (plain (λ _. u8)), tt)))))
+  stayed = (stay-ref (0 ∷ []) tt (plain (λ _. Row T)), (stay-none (λ _. Row F) yes, (stay-none-slice (1 ∷ []) tt (plain (λ _. u8)) yes, (stay-none-slice (2 ∷ []) tt (plain (λ _. u8)) yes, (gave-slice (3 ∷ []) tt (plain (λ _. u8)), (gave-slice (4 ∷ []) tt (plain (λ _. u8)), tt))))))
 
   module _ {M : Type 1} (𝓤 : URA M) (H : Heap 𝓤) (A : Atoms 𝓤) (W : Given 𝓤 H A) where
-    module _ (κ κ₁ κ₂ κ₃ : Lft) (q q₁ q₂ q₃ : Share) (b o : ℕ) (γ : GName) (h : Data T) (f : Data F) (slots marks area : Ref) (f-is : Is (Row F) f (mach F f ∷ [])) where
-      abbrev κs : Lfts 3
-      κs = (κ₁, (κ₂, (κ₃, tt)))
+    module _ (κ κ₁ κ₂ κ₃ κ₄ : Lft) (q q₁ q₂ q₃ q₄ : Share) (b o : ℕ) (γ : GName) (h : Data T) (f : Data F) (slots marks area map : Ref) (f-is : Is (Row F) f (mach F f ∷ [])) where
+      abbrev κs : Lfts 4
+      κs = (κ₁, (κ₂, (κ₃, (κ₄, tt))))
 
-      abbrev qs : Shares 3
-      qs = (q₁, (q₂, (q₃, tt)))
+      abbrev qs : Shares 4
+      qs = (q₁, (q₂, (q₃, (q₄, tt))))
 
       -- the buffers' tokens
       abbrev Tokens : Item 𝓤
-      Tokens = ‵ (flft κ₁ q₁) ⊛ ‵ (flft κ₂ q₂) ⊛ ‵ (flft κ₃ q₃) ⊛ ‵ ftrue
+      Tokens = ‵ (flft κ₁ q₁) ⊛ ‵ (flft κ₂ q₂) ⊛ ‵ (flft κ₃ q₃) ⊛ ‵ (flft κ₄ q₄) ⊛ ‵ ftrue
 
-      abbrev x : (RefT (Data T) × (Data F × (Ref × (Ref × (Ref × Unit {0})))))
-      x = (record { ptr = (b, o); name = γ; now = h }, (f, (slots, (marks, (area, tt)))))
+      abbrev x : (RefT (Data T) × (Data F × (Ref × (Ref × (Ref × (Ref × Unit {0}))))))
+      x = (record { ptr = (b, o); name = γ; now = h }, (f, (slots, (marks, (area, (map, tt))))))
 
-      abbrev at : (List Val × (List Val × (List Val × (List Val × (List Val × Unit {0})))))
-      at = (vptr b o ∷ [], (mach F f ∷ [], (val slots ∷ [], (val marks ∷ [], (val area ∷ [], tt)))))
+      abbrev at : (List Val × (List Val × (List Val × (List Val × (List Val × (List Val × Unit {0}))))))
+      at = (vptr b o ∷ [], (mach F f ∷ [], (val slots ∷ [], (val marks ∷ [], (val area ∷ [], (val map ∷ [], tt))))))
 
       abbrev Post : Val → SProp 𝓤
       Post = walkOf 𝓤 H A lent stayed (updates 𝓤) .post (((κ, κs), (q, qs), tt, x, at), tt)
@@ -142,14 +156,14 @@ module _ (T F N : Plain) (quiet : (x : Data F) (w : Last (Row F .exit yes) x) �
       abbrev Own-marks : Fml
       Own-marks = ShrSlice (named 2) κ₂ u8 .own marks (val marks ∷ [])
 
-      abbrev passed : (Data T × (Data F × (Ref × (Ref × (Ref × Unit {0})))))
-      passed = (h, (f, (slots, (marks, (area, tt)))))
+      abbrev passed : (Data T × (Data F × (Ref × (Ref × (Ref × (Ref × Unit {0}))))))
+      passed = (h, (f, (slots, (marks, (area, (map, tt))))))
 
       abbrev to : G 𝓤 H A .Ghost
-      to = ((κs, qs, tt, passed, (mach T h ∷ [], (mach F f ∷ [], (val slots ∷ [], (val marks ∷ [], (val area ∷ [], tt)))))), tt)
+      to = ((κs, qs, tt, passed, (mach T h ∷ [], (mach F f ∷ [], (val slots ∷ [], (val marks ∷ [], (val area ∷ [], (val map ∷ [], tt))))))), tt)
 
       abbrev Rest : Fml
-      Rest = owns (Row F ∷ ShrSlice (named 1) κ₁ u8 ∷ ShrSlice (named 2) κ₂ u8 ∷ MutSlice (named 3) κ₃ u8 ∷ []) (f, (slots, (marks, (area, tt)))) (mach F f ∷ [], (val slots ∷ [], (val marks ∷ [], (val area ∷ [], tt))))
+      Rest = owns (Row F ∷ ShrSlice (named 1) κ₁ u8 ∷ ShrSlice (named 2) κ₂ u8 ∷ MutSlice (named 3) κ₃ u8 ∷ MutSlice (named 4) κ₄ u8 ∷ []) (f, (slots, (marks, (area, (map, tt))))) (mach F f ∷ [], (val slots ∷ [], (val marks ∷ [], (val area ∷ [], (val map ∷ [], tt)))))
 
       asked : ent 𝓤 (⋆ 𝓤 H A (Tokens ∷ ‵ (Row T .own h (mach T h ∷ [])) ∷ ‵ Rest ∷ [])) (G 𝓤 H A .pre to)
       asked = qed W (Tokens ∷ ‵ (Row T .own h (mach T h ∷ [])) ∷ ‵ Rest ∷ []) ∵ move ! (1 ∷ 2 ∷ []) $ fjoin ! $ move ! (1 ∷ 0 ∷ []) $ join ! $ frame ! $ done !
@@ -158,66 +172,68 @@ module _ (T F N : Plain) (quiet : (x : Data F) (w : Last (Row F .exit yes) x) �
       goes-to : ent 𝓤 (⋆ 𝓤 H A (Tokens ∷ ‵ (Row T .own h (mach T h ∷ [])) ∷ ‵ Rest ∷ [])) (sep 𝓤 (G 𝓤 H A .pre to) (sep 𝓤 (sem 𝓤 H A Own-slots) (sem 𝓤 H A Own-marks)))
       goes-to =
           qed W (Tokens ∷ ‵ (Row T .own h (mach T h ∷ [])) ∷ ‵ Rest ∷ []) ∵
-          move ! (2 ∷ []) $ fsplit ! $ move ! (1 ∷ []) $ fsplit ! $ use1 W (‵ Own-slots ⊛ ‵ Own-slots) (shr-slice-copy 𝓤 H A W (named 1) κ₁ u8 .twice slots (val slots ∷ [])) $ split ! $ move ! (2 ∷ []) $ fsplit ! $ use1 W (‵ Own-marks ⊛ ‵ Own-marks) (shr-slice-copy 𝓤 H A W (named 2) κ₂ u8 .twice marks (val marks ∷ [])) $ split ! $ move ! (2 ∷ []) $ fsplit ! $ move ! (1 ∷ []) $ move ! (1 ∷ 0 ∷ []) $ fjoin ! $ move ! (1 ∷ 0 ∷ []) $ fjoin ! $ move ! (2 ∷ 0 ∷ []) $ fjoin ! $ move ! (3 ∷ 0 ∷ []) $ fjoin ! $ move ! (3 ∷ 4 ∷ 0 ∷ []) $ use3 W (raw (G 𝓤 H A .pre to)) asked $ move ! (0 ∷ 2 ∷ 1 ∷ []) $ frame ! $ frame ! $ done !
+          move ! (2 ∷ []) $ fsplit ! $ move ! (1 ∷ []) $ fsplit ! $ use1 W (‵ Own-slots ⊛ ‵ Own-slots) (shr-slice-copy 𝓤 H A W (named 1) κ₁ u8 .twice slots (val slots ∷ [])) $ split ! $ move ! (2 ∷ []) $ fsplit ! $ use1 W (‵ Own-marks ⊛ ‵ Own-marks) (shr-slice-copy 𝓤 H A W (named 2) κ₂ u8 .twice marks (val marks ∷ [])) $ split ! $ move ! (2 ∷ []) $ fsplit ! $ move ! (1 ∷ []) $ fsplit ! $ move ! (1 ∷ []) $ move ! (1 ∷ 0 ∷ []) $ fjoin ! $ move ! (1 ∷ 0 ∷ []) $ fjoin ! $ move ! (1 ∷ 0 ∷ []) $ fjoin ! $ move ! (2 ∷ 0 ∷ []) $ fjoin ! $ move ! (3 ∷ 0 ∷ []) $ fjoin ! $ move ! (3 ∷ 4 ∷ 0 ∷ []) $ use3 W (raw (G 𝓤 H A .pre to)) asked $ move ! (0 ∷ 2 ∷ 1 ∷ []) $ frame ! $ frame ! $ done !
 
-      abbrev Told : D → List ℕ → Type 0
-      Told t = Said h f (slots .now) (marks .now) (area .now) (answer t) (next t)
+      abbrev Told : D → (left left-map : List ℕ) → Type 0
+      Told t = Said h f (slots .now) (marks .now) (area .now) (map .now) (answer t) (next t)
 
       -- what is left at the return
-      abbrev Left : D → List ℕ → List (Item 𝓤)
-      Left t area′ = ‵ (fobs γ (Row T .coded .code (next t))) ∷ ‵ (fbor κ (Body (mem (Row T)) b o γ)) ∷ ‵ (flft κ q) ∷ Tokens ∷ ‵ (finally u8 (area .name) area′) ∷ ‵ Own-slots ∷ ‵ Own-marks ∷ []
+      abbrev Left-over : D → (left-area left-map : List ℕ) → List (Item 𝓤)
+      Left-over t area′ map′ = ‵ (fobs γ (Row T .coded .code (next t))) ∷ ‵ (fbor κ (Body (mem (Row T)) b o γ)) ∷ ‵ (flft κ q) ∷ Tokens ∷ ‵ (finally u8 (area .name) area′) ∷ ‵ (finally u8 (map .name) map′) ∷ ‵ Own-slots ∷ ‵ Own-marks ∷ []
 
-      exits : (t : D) (w : Last (Row F .exit yes) f) (area′ : List ℕ) → Told t area′ → length area′ ≡ length (area .now) → Is (Row N) (answer t) (mach N (answer t) ∷ []) → ent 𝓤 (⋆ 𝓤 H A (Left t area′)) (Post (mach N (answer t)))
-      exits t w area′ e l-area is =
-          qed W (Left t area′) ∵
-          suffices ! _ (ends-at 𝓤 H A lent stayed (updates 𝓤) W (((κ, κs), (q, qs), tt, x, at), tt) _ (answer t) (next t, (w, (tt, (tt, (area′, tt))))) (tt, (tt, (tt, (tt, (l-area, tt)))))) $
-          says ! e $ move ! (2 ∷ 3 ∷ []) $ join ! $ frame ! $ feqI ! (List Val) (vptr b o ∷ []) (vptr b o ∷ []) refl $ fjoin3 ! $ nothing ! $ move ! (2 ∷ 0 ∷ []) $ fjoin ! $ move ! (3 ∷ 0 ∷ []) $ fjoin ! $ move ! (2 ∷ 0 ∷ []) $ fjoin ! $ owned ! (Row F) (Is (Row F)) (LL.makes (F .type) (F .facts) 𝓤 H A) f _ f-is $ fjoin ! $ move ! (1 ∷ 0 ∷ []) $ fjoin ! $ owned ! (Row N) (Is (Row N)) (LL.makes (N .type) (N .facts) 𝓤 H A) (answer t) _ is $ move ! (1 ∷ 0 ∷ []) $ done !
+      exits : (t : D) (w : Last (Row F .exit yes) f) (area′ map′ : List ℕ) → Told t area′ map′ → length area′ ≡ length (area .now) → length map′ ≡ length (map .now) → Is (Row N) (answer t) (mach N (answer t) ∷ []) → ent 𝓤 (⋆ 𝓤 H A (Left-over t area′ map′)) (Post (mach N (answer t)))
+      exits t w area′ map′ e l-area l-map is =
+          qed W (Left-over t area′ map′) ∵
+          suffices ! _ (ends-at 𝓤 H A lent stayed (updates 𝓤) W (((κ, κs), (q, qs), tt, x, at), tt) _ (answer t) (next t, (w, (tt, (tt, (area′, (map′, tt)))))) (tt, (tt, (tt, (tt, (l-area, (l-map, tt))))))) $
+          says ! e $ move ! (2 ∷ 3 ∷ []) $ join ! $ frame ! $ feqI ! (List Val) (vptr b o ∷ []) (vptr b o ∷ []) refl $ fjoin3 ! $ nothing ! $ move ! (3 ∷ 0 ∷ []) $ fjoin ! $ move ! (2 ∷ 0 ∷ []) $ fjoin ! $ move ! (3 ∷ 0 ∷ []) $ fjoin ! $ move ! (2 ∷ 0 ∷ []) $ fjoin ! $ owned ! (Row F) (Is (Row F)) (LL.makes (F .type) (F .facts) 𝓤 H A) f _ f-is $ fjoin ! $ move ! (1 ∷ 0 ∷ []) $ fjoin ! $ owned ! (Row N) (Is (Row N)) (LL.makes (N .type) (N .facts) 𝓤 H A) (answer t) _ is $ move ! (1 ∷ 0 ∷ []) $ done !
 
       module _ (C : Calls 𝓤 H) (Λ : Loops 𝓤 H) (fm : FmC 𝓤 H (W .laws) C) (g : Name) (known : Triple 𝓤 (C g) (G 𝓤 H A)) where
-        walk : Room u8 (length (slots .now)) → Room u8 (length (marks .now)) → Room u8 (length (area .now)) → ent 𝓤 (onEntry 𝓤 H A (lent .signature) (κ, κs) (q, qs) x at) (WpFn 𝓤 H C Λ (function g) (vptr b o ∷ mach F f ∷ val slots ∷ val marks ∷ val area ∷ []) Post)
-        walk room-slots room-marks room-area =
-            qed W ((‵ (flft κ q) ⊛ Tokens) ∷ ‵ (owns (MutRef (named 0) κ (Row T) ∷ Row F ∷ ShrSlice (named 1) κ₁ u8 ∷ ShrSlice (named 2) κ₂ u8 ∷ MutSlice (named 3) κ₃ u8 ∷ []) x at) ∷ []) ∵
+        walk : Room u8 (length (slots .now)) → Room u8 (length (marks .now)) → Room u8 (length (area .now)) → Room u8 (length (map .now)) → ent 𝓤 (onEntry 𝓤 H A (lent .signature) (κ, κs) (q, qs) x at) (WpFn 𝓤 H C Λ (function g) (vptr b o ∷ mach F f ∷ val slots ∷ val marks ∷ val area ∷ val map ∷ []) Post)
+        walk room-slots room-marks room-area room-map =
+            qed W ((‵ (flft κ q) ⊛ Tokens) ∷ ‵ (owns (MutRef (named 0) κ (Row T) ∷ Row F ∷ ShrSlice (named 1) κ₁ u8 ∷ ShrSlice (named 2) κ₂ u8 ∷ MutSlice (named 3) κ₃ u8 ∷ MutSlice (named 4) κ₄ u8 ∷ []) x at) ∷ []) ∵
             split ! $ move ! (2 ∷ []) $ fsplit ! $ fsplit3 ! $ drop ! $ move ! (0 ∷ 1 ∷ 3 ∷ []) $
             -- [obs; the borrow; its token; what the other parameters own; the other tokens]
-            enter ! C Λ (function g) (vptr b o ∷ mach F f ∷ val slots ∷ val marks ∷ val area ∷ []) _ $
-            alloc1 ! (λ l0. alloc1 ! (λ l1. alloc1 ! (λ l2. alloc1 ! (λ l3. alloc1 ! (λ l4. alloc1 ! (λ l5. alloc1 ! (λ l6. alloc1 ! (λ l7. alloc1 ! (λ l8. alloc1 ! (λ l9. alloc0 ! $ params1 ! $
-            pass1 ! (init ! 16 refl (tt, tt)) $ pass1 ! (init ! 14 refl (LL.lawful (F .type) (F .laws) 𝓤 H A W .typed f _ f-is .0)) $ pass1 ! (init ! 12 refl (tt, (tt, (record { fits = room-slots .0 }, tt)))) $ pass1 ! (init ! 10 refl (tt, (tt, (record { fits = room-marks .0 }, tt)))) $ pass1 ! (init ! 8 refl (tt, (tt, (record { fits = room-area .0 }, tt)))) $ pass0 ! $
-            move ! (20 ∷ 21 ∷ 22 ∷ []) $ opens ! tt (Row T) {h = h} b o (λ vs. spelt ! (Row T) (Is (Row T)) (shows 𝓤 H A (Row T)) (LL.vals (T .type) (T .laws)) (LL.tells (T .type) (T .laws)) fullShare h vs b o $
+            enter ! C Λ (function g) (vptr b o ∷ mach F f ∷ val slots ∷ val marks ∷ val area ∷ val map ∷ []) _ $
+            alloc1 ! (λ l0. alloc1 ! (λ l1. alloc1 ! (λ l2. alloc1 ! (λ l3. alloc1 ! (λ l4. alloc1 ! (λ l5. alloc1 ! (λ l6. alloc1 ! (λ l7. alloc1 ! (λ l8. alloc1 ! (λ l9. alloc1 ! (λ l10. alloc1 ! (λ l11. alloc1 ! (λ l12. alloc0 ! $ params1 ! $
+            pass1 ! (init ! 22 refl (tt, tt)) $ pass1 ! (init ! 20 refl (LL.lawful (F .type) (F .laws) 𝓤 H A W .typed f _ f-is .0)) $ pass1 ! (init ! 18 refl (tt, (tt, (record { fits = room-slots .0 }, tt)))) $ pass1 ! (init ! 16 refl (tt, (tt, (record { fits = room-marks .0 }, tt)))) $ pass1 ! (init ! 14 refl (tt, (tt, (record { fits = room-area .0 }, tt)))) $ pass1 ! (init ! 12 refl (tt, (tt, (record { fits = room-map .0 }, tt)))) $ pass0 ! $
+            move ! (26 ∷ 27 ∷ 28 ∷ []) $ opens ! tt (Row T) {h = h} b o (λ vs. spelt ! (Row T) (Is (Row T)) (shows 𝓤 H A (Row T)) (LL.vals (T .type) (T .laws)) (LL.tells (T .type) (T .laws)) fullShare h vs b o $
             move ! (1 ∷ []) $ peeks ! (Row T) (Is (Row T)) (shows 𝓤 H A (Row T)) h (mach T h ∷ []) (λ was. move ! (1 ∷ 0 ∷ []) $
-            -- [cell at 0; rec at 1; open at 2; obs at 3; auth at 4; _9 at 5; _8 at 7; _7 at 9; _6 at 11; _5 at 13; _4 at 15; _3 at 17; _2 at 19; _1 at 21; _0 at 23; rest at 25; toks at 26]
-            assigns ! (of-opd ! (load ! (from ! (hop ! (look ! 21 refl) (stop !))) (look-raw ! 0 refl))) (from ! (stop !)) (init ! 9 refl (LL.lawful (T .type) (T .laws) 𝓤 H A W .typed h _ was .0)) $
-            assigns ! (addr ! (from ! (fld ! refl (hop ! (look-in ! 13 (sub ! 0 refl (whole !))) (stop !))))) (from ! (stop !)) (init ! 7 refl (tt, tt)) $
-            assigns ! (agg ! (and-then ! (load ! (from ! (stop !)) (look ! 7 refl)) (and-then ! (load ! (from ! (fld ! refl (stop !))) (look-in ! 13 (sub ! 1 refl (whole !)))) (no-more !)))) (from ! (stop !)) (init ! 5 refl (tt, (tt, (record { fits = room-area .0 }, tt)))) $
-            move ! (26 ∷ 1 ∷ 25 ∷ []) $ use3 W (raw (G 𝓤 H A .pre to) ⊛ ‵ Own-slots ⊛ ‵ Own-marks) goes-to $ split ! $
-            -- [pre at 0; owns at 1; cell at 2; open at 3; obs at 4; auth at 5; _9 at 6; _8 at 8; _7 at 10; _6 at 12; _5 at 14; _4 at 16; _3 at 18; _2 at 20; _1 at 22; _0 at 24]
-            calls-at ! fm (G 𝓤 H A) known to (and-then ! (load ! (from ! (stop !)) (look ! 10 refl)) (and-then ! (load ! (from ! (stop !)) (look ! 20 refl)) (and-then ! (load ! (from ! (stop !)) (look ! 18 refl)) (and-then ! (load ! (from ! (stop !)) (look ! 16 refl)) (and-then ! (load ! (from ! (stop !)) (look ! 6 refl)) (no-more !)))))) (λ v.
+            -- [cell at 0; rec at 1; open at 2; obs at 3; auth at 4; _12 at 5; _11 at 7; _10 at 9; _9 at 11; _8 at 13; _7 at 15; _6 at 17; _5 at 19; _4 at 21; _3 at 23; _2 at 25; _1 at 27; _0 at 29; rest at 31; toks at 32]
+            assigns ! (of-opd ! (load ! (from ! (hop ! (look ! 27 refl) (stop !))) (look-raw ! 0 refl))) (from ! (stop !)) (init ! 13 refl (LL.lawful (T .type) (T .laws) 𝓤 H A W .typed h _ was .0)) $
+            assigns ! (addr ! (from ! (fld ! refl (hop ! (look-in ! 19 (sub ! 0 refl (whole !))) (stop !))))) (from ! (stop !)) (init ! 11 refl (tt, tt)) $
+            assigns ! (agg ! (and-then ! (load ! (from ! (stop !)) (look ! 11 refl)) (and-then ! (load ! (from ! (fld ! refl (stop !))) (look-in ! 19 (sub ! 1 refl (whole !)))) (no-more !)))) (from ! (stop !)) (init ! 9 refl (tt, (tt, (record { fits = room-area .0 }, tt)))) $
+            assigns ! (addr ! (from ! (fld ! refl (hop ! (look-in ! 17 (sub ! 0 refl (whole !))) (stop !))))) (from ! (stop !)) (init ! 7 refl (tt, tt)) $
+            assigns ! (agg ! (and-then ! (load ! (from ! (stop !)) (look ! 7 refl)) (and-then ! (load ! (from ! (fld ! refl (stop !))) (look-in ! 17 (sub ! 1 refl (whole !)))) (no-more !)))) (from ! (stop !)) (init ! 5 refl (tt, (tt, (record { fits = room-map .0 }, tt)))) $
+            move ! (32 ∷ 1 ∷ 31 ∷ []) $ use3 W (raw (G 𝓤 H A .pre to) ⊛ ‵ Own-slots ⊛ ‵ Own-marks) goes-to $ split ! $
+            -- [pre at 0; owns at 1; cell at 2; open at 3; obs at 4; auth at 5; _12 at 6; _11 at 8; _10 at 10; _9 at 12; _8 at 14; _7 at 16; _6 at 18; _5 at 20; _4 at 22; _3 at 24; _2 at 26; _1 at 28; _0 at 30]
+            calls-at ! fm (G 𝓤 H A) known to (and-then ! (load ! (from ! (stop !)) (look ! 14 refl)) (and-then ! (load ! (from ! (stop !)) (look ! 26 refl)) (and-then ! (load ! (from ! (stop !)) (look ! 24 refl)) (and-then ! (load ! (from ! (stop !)) (look ! 22 refl)) (and-then ! (load ! (from ! (stop !)) (look ! 10 refl)) (and-then ! (load ! (from ! (stop !)) (look ! 6 refl)) (no-more !))))))) (λ v.
             use1 W (later (some (λ (t : D). (Tokens ⊛ ‵ (B .own t (v ∷ []))) ⊛ raw (ensured 𝓤 H A called (answers 𝓤) κs passed tt t)))) (id⊢ 𝓤 _) $ await ! tt $ pick ! (λ t.
-            split ! $ move ! (1 ∷ []) $ use1 W (some (λ (ws : Lasts called κs passed). ‵ (lasts called κs passed ws) ⊛ raw (fact 𝓤 (Told t (ws .1 .1 .1 .1 .0))))) (id⊢ 𝓤 _) $ pick ! (λ ws.
-            split ! $ move ! (1 ∷ []) $ heard ! (Told t (ws .1 .1 .1 .1 .0)) (λ e. fsplit ! $ drop ! $ fsplit ! $ drop ! $ fsplit ! $ drop ! $ fsplit ! $ drop ! $ fsplit ! $ fsplit ! $ move ! (1 ∷ []) $ feqL ! (λ l-area. move ! (1 ∷ []) $
-            move ! (2 ∷ []) $ split ! $ move ! (1 ∷ []) $ peeks ! B (Is B) (shows 𝓤 H A B) t (v ∷ []) (λ is.
+            split ! $ move ! (1 ∷ []) $ use1 W (some (λ (ws : Lasts called κs passed). ‵ (lasts called κs passed ws) ⊛ raw (fact 𝓤 (Told t (ws .1 .1 .1 .1 .0) (ws .1 .1 .1 .1 .1 .0))))) (id⊢ 𝓤 _) $ pick ! (λ ws.
+            split ! $ move ! (1 ∷ []) $ heard ! (Told t (ws .1 .1 .1 .1 .0) (ws .1 .1 .1 .1 .1 .0)) (λ e. fsplit ! $ drop ! $ fsplit ! $ drop ! $ fsplit ! $ drop ! $ fsplit ! $ drop ! $ fsplit ! $ fsplit ! $ move ! (1 ∷ []) $ feqL ! (λ l-area. move ! (1 ∷ []) $ fsplit ! $ fsplit ! $ move ! (1 ∷ []) $ feqL ! (λ l-map. move ! (1 ∷ []) $
+            move ! (3 ∷ []) $ split ! $ move ! (1 ∷ []) $ peeks ! B (Is B) (shows 𝓤 H A B) t (v ∷ []) (λ is.
             let parts = LL.owed Both laws t (v ∷ []) is in
-            -- [res at 0; toks at 1; lasts at 2; fin-area at 3; owns at 4; cell at 5; open at 6; obs at 7; auth at 8; _9 at 9; _8 at 11; _7 at 13; _6 at 15; _5 at 17; _4 at 19; _3 at 21; _2 at 23; _1 at 25; _0 at 27]
-            land ! (from ! (stop !)) (init ! 15 refl (LL.lawful Both laws 𝓤 H A W .typed t _ is .0)) $
-            rewrite ! 15 (λ (u : Val). ‵ (fat fullShare (layout (shape Both)) l6 0 u)) (ap only (LL.tells Both laws t _ is)) refl $
-            assigns ! (of-opd ! (load ! (from ! (fld ! refl (stop !))) (look-in ! 15 (sub ! 0 refl (whole !))))) (from ! (hop ! (look ! 25 refl) (stop !))) (store-raw ! 5 refl (LL.lawful (T .type) (T .laws) 𝓤 H A W .typed (next t) _ (parts .0) .0)) $
-            assigns ! (of-opd ! (load ! (from ! (fld ! refl (stop !))) (look-in ! 15 (sub ! 1 refl (whole !))))) (from ! (stop !)) (init ! 27 refl (LL.lawful (N .type) (N .laws) 𝓤 H A W .typed (answer t) _ (parts .1 .0) .0)) $
-            drop ! $ owned ! (Row T) (Is (Row T)) (LL.makes (T .type) (T .facts) 𝓤 H A) (next t) _ (parts .0) $ move ! (5 ∷ 0 ∷ 6 ∷ 7 ∷ 8 ∷ []) $ closes ! tt (Row T) (next t) (mach T (next t) ∷ []) b o $
-            -- [obs at 0; bor at 1; lft at 2; toks at 3; lasts at 4; fin-area at 5; owns at 6; _9 at 7; _8 at 9; _7 at 11; _6 at 13; _5 at 15; _4 at 17; _3 at 19; _2 at 21; _1 at 23; _0 at 25]
-            returns ! (look ! 25 refl) $ forget ! 7 refl $ forget ! 9 refl $ forget ! 11 refl $ forget ! 13 refl $ forget ! 15 refl $ forget ! 17 refl $ forget ! 19 refl $ forget ! 21 refl $ forget ! 23 refl $ forget ! 25 refl $
-            move ! (25 ∷ 26 ∷ []) $ free1 ! $ move ! (23 ∷ 24 ∷ []) $ free1 ! $ move ! (21 ∷ 22 ∷ []) $ free1 ! $ move ! (19 ∷ 20 ∷ []) $ free1 ! $ move ! (17 ∷ 18 ∷ []) $ free1 ! $ move ! (15 ∷ 16 ∷ []) $ free1 ! $ move ! (13 ∷ 14 ∷ []) $ free1 ! $ move ! (11 ∷ 12 ∷ []) $ free1 ! $ move ! (9 ∷ 10 ∷ []) $ free1 ! $ move ! (7 ∷ 8 ∷ []) $ free1 ! $ free0 ! $
-            move ! (6 ∷ []) $ split ! $
-            keep ! (2 ∷ 3 ∷ 4 ∷ 5 ∷ 7 ∷ 0 ∷ 1 ∷ []) $ by ! (exits t (ws .1 .0) (ws .1 .1 .1 .1 .0) e l-area (parts .1 .0))))))))))))))))))))
+            -- [res at 0; toks at 1; lasts at 2; fin-map at 3; fin-area at 4; owns at 5; cell at 6; open at 7; obs at 8; auth at 9; _12 at 10; _11 at 12; _10 at 14; _9 at 16; _8 at 18; _7 at 20; _6 at 22; _5 at 24; _4 at 26; _3 at 28; _2 at 30; _1 at 32; _0 at 34]
+            land ! (from ! (stop !)) (init ! 20 refl (LL.lawful Both laws 𝓤 H A W .typed t _ is .0)) $
+            rewrite ! 20 (λ (u : Val). ‵ (fat fullShare (layout (shape Both)) l7 0 u)) (ap only (LL.tells Both laws t _ is)) refl $
+            assigns ! (of-opd ! (load ! (from ! (fld ! refl (stop !))) (look-in ! 20 (sub ! 0 refl (whole !))))) (from ! (hop ! (look ! 32 refl) (stop !))) (store-raw ! 6 refl (LL.lawful (T .type) (T .laws) 𝓤 H A W .typed (next t) _ (parts .0) .0)) $
+            assigns ! (of-opd ! (load ! (from ! (fld ! refl (stop !))) (look-in ! 20 (sub ! 1 refl (whole !))))) (from ! (stop !)) (init ! 34 refl (LL.lawful (N .type) (N .laws) 𝓤 H A W .typed (answer t) _ (parts .1 .0) .0)) $
+            drop ! $ owned ! (Row T) (Is (Row T)) (LL.makes (T .type) (T .facts) 𝓤 H A) (next t) _ (parts .0) $ move ! (6 ∷ 0 ∷ 7 ∷ 8 ∷ 9 ∷ []) $ closes ! tt (Row T) (next t) (mach T (next t) ∷ []) b o $
+            -- [obs at 0; bor at 1; lft at 2; toks at 3; lasts at 4; fin-map at 5; fin-area at 6; owns at 7; _12 at 8; _11 at 10; _10 at 12; _9 at 14; _8 at 16; _7 at 18; _6 at 20; _5 at 22; _4 at 24; _3 at 26; _2 at 28; _1 at 30; _0 at 32]
+            returns ! (look ! 32 refl) $ forget ! 8 refl $ forget ! 10 refl $ forget ! 12 refl $ forget ! 14 refl $ forget ! 16 refl $ forget ! 18 refl $ forget ! 20 refl $ forget ! 22 refl $ forget ! 24 refl $ forget ! 26 refl $ forget ! 28 refl $ forget ! 30 refl $ forget ! 32 refl $
+            move ! (32 ∷ 33 ∷ []) $ free1 ! $ move ! (30 ∷ 31 ∷ []) $ free1 ! $ move ! (28 ∷ 29 ∷ []) $ free1 ! $ move ! (26 ∷ 27 ∷ []) $ free1 ! $ move ! (24 ∷ 25 ∷ []) $ free1 ! $ move ! (22 ∷ 23 ∷ []) $ free1 ! $ move ! (20 ∷ 21 ∷ []) $ free1 ! $ move ! (18 ∷ 19 ∷ []) $ free1 ! $ move ! (16 ∷ 17 ∷ []) $ free1 ! $ move ! (14 ∷ 15 ∷ []) $ free1 ! $ move ! (12 ∷ 13 ∷ []) $ free1 ! $ move ! (10 ∷ 11 ∷ []) $ free1 ! $ move ! (8 ∷ 9 ∷ []) $ free1 ! $ free0 ! $
+            move ! (7 ∷ []) $ split ! $
+            keep ! (2 ∷ 3 ∷ 4 ∷ 5 ∷ 8 ∷ 7 ∷ 0 ∷ 1 ∷ []) $ by ! (exits t (ws .1 .0) (ws .1 .1 .1 .1 .0) (ws .1 .1 .1 .1 .1 .0) e l-area l-map (parts .1 .0))))))))))))))))))))))))
 
     walks : (C : Calls 𝓤 H) (Λ : Loops 𝓤 H) → FmC 𝓤 H (W .laws) C → (g : Name) → Triple 𝓤 (C g) (G 𝓤 H A) → Walks 𝓤 H A lent stayed (WpFn 𝓤 H C Λ (function g)) (updates 𝓤)
-    walks C Λ fm g known = walked 𝓤 H A lent stayed (updates 𝓤) (WpFn 𝓤 H C Λ (function g)) (λ κs. (ptr-vals, (LL.vals (F .type) (F .laws), (slice-vals, (slice-vals, (slice-vals, tt))))))
-        (λ κs. (mut-tells (named 0) (κs .0) (Row T), (LL.tells (F .type) (F .laws), (shr-slice-tells (named 1) (κs .1 .0) u8, (shr-slice-tells (named 2) (κs .1 .1 .0) u8, (mut-slice-tells (named 3) (κs .1 .1 .1 .0) u8, tt))))))
+    walks C Λ fm g known = walked 𝓤 H A lent stayed (updates 𝓤) (WpFn 𝓤 H C Λ (function g)) (λ κs. (ptr-vals, (LL.vals (F .type) (F .laws), (slice-vals, (slice-vals, (slice-vals, (slice-vals, tt)))))))
+        (λ κs. (mut-tells (named 0) (κs .0) (Row T), (LL.tells (F .type) (F .laws), (shr-slice-tells (named 1) (κs .1 .0) u8, (shr-slice-tells (named 2) (κs .1 .1 .0) u8, (mut-slice-tells (named 3) (κs .1 .1 .1 .0) u8, (mut-slice-tells (named 4) (κs .1 .1 .1 .1 .0) u8, tt)))))))
         (λ κs qs bounds a _ are.
         via 𝓤 _ (fst∗ 𝓤 _ (emp 𝓤))
-        (walk (κs .0) (κs .1 .0) (κs .1 .1 .0) (κs .1 .1 .1 .0) (qs .0) (qs .1 .0) (qs .1 .1 .0) (qs .1 .1 .1 .0) (a .0 .ptr .0) (a .0 .ptr .1) (a .0 .name) (a .0 .now) (a .1 .0) (a .1 .1 .0) (a .1 .1 .1 .0) (a .1 .1 .1 .1 .0) (are .1 .0)
-        C Λ fm g known (are .1 .1 .0 .0 .1) (are .1 .1 .1 .0 .0 .1) (are .1 .1 .1 .1 .0 .0 .1)))
+        (walk (κs .0) (κs .1 .0) (κs .1 .1 .0) (κs .1 .1 .1 .0) (κs .1 .1 .1 .1 .0) (qs .0) (qs .1 .0) (qs .1 .1 .0) (qs .1 .1 .1 .0) (qs .1 .1 .1 .1 .0) (a .0 .ptr .0) (a .0 .ptr .1) (a .0 .name) (a .0 .now) (a .1 .0) (a .1 .1 .0) (a .1 .1 .1 .0) (a .1 .1 .1 .1 .0) (a .1 .1 .1 .1 .1 .0) (are .1 .0)
+        C Λ fm g known (are .1 .1 .0 .0 .1) (are .1 .1 .1 .0 .0 .1) (are .1 .1 .1 .1 .0 .0 .1) (are .1 .1 .1 .1 .1 .0 .0 .1)))
 
-    goes : AllGo 𝓤 H A W 4 (lent .signature .params) (lent .kept) stayed
-    goes = (goes-ref 𝓤 H A W 4 0 tt (plain (λ _. Row T)), (goes-none 𝓤 H A W 4 (λ _. Row F) yes (λ κs x w. quiet x w), (goes-none-slice 𝓤 H A W 4 (1 ∷ []) tt (plain (λ _. u8)) yes, (goes-none-slice 𝓤 H A W 4 (2 ∷ []) tt (plain (λ _. u8)) yes, (goes-gave-slice 𝓤 H A W 4 3 tt (plain (λ _. u8)), tt)))))
+    goes : AllGo 𝓤 H A W 5 (lent .signature .params) (lent .kept) stayed
+    goes = (goes-ref 𝓤 H A W 5 0 tt (plain (λ _. Row T)), (goes-none 𝓤 H A W 5 (λ _. Row F) yes (λ κs x w. quiet x w), (goes-none-slice 𝓤 H A W 5 (1 ∷ []) tt (plain (λ _. u8)) yes, (goes-none-slice 𝓤 H A W 5 (2 ∷ []) tt (plain (λ _. u8)) yes, (goes-gave-slice 𝓤 H A W 5 3 tt (plain (λ _. u8)), (goes-gave-slice 𝓤 H A W 5 4 tt (plain (λ _. u8)), tt))))))
 
     pub meets : (𝓣 : Tables 𝓤 H) (g : Name) → Triple 𝓤 (𝓣 .C g) (G 𝓤 H A) → Meets 𝓤 H A (lent .signature) (WpFn 𝓤 H (𝓣 .C) (𝓣 .Λ) (function g)) (closing 𝓤 H A lent (updates 𝓤))
     meets 𝓣 g known = walk-meets 𝓤 H A lent stayed W goes (updates 𝓤) (WpFn 𝓤 H (𝓣 .C) (𝓣 .Λ) (function g)) (WpFn-mono 𝓤 H (W .laws) 𝓣 (function g)) (walks (𝓣 .C) (𝓣 .Λ) (fmOf 𝓤 H (W .laws) 𝓣) g known)

@@ -22,18 +22,30 @@ pub mod Laws
 
 -- ---- two copies
 
--- a copy of a frame: its slots with their marks, and the area that is lent for it
+-- a copy of a frame: its slots with their marks, and the area and the map that are lent for it
 pub record Copy : Type 0 where
   pub slots : List ℕ
   pub marks : List ℕ
   pub area : List ℕ
+  pub map : List ℕ
 
-abbrev pub copyOf : (slots marks area : List ℕ) → Copy
-copyOf slots marks area = record { slots = slots; marks = marks; area = area }
+abbrev pub copyOf : (slots marks area map : List ℕ) → Copy
+copyOf slots marks area map = record { slots = slots; marks = marks; area = area; map = map }
 
 -- what its own call answers and leaves
 abbrev pub alone : Framing → Copy → ReceiveOutcome
-alone f c = receiving f (c .slots) (c .marks) (c .area)
+alone f c = receiving f (c .slots) (c .marks) (c .area) (c .map)
+
+-- what is left for a copy: its area and its map
+pub record Left : Type 0 where
+  pub area : List ℕ
+  pub map : List ℕ
+
+abbrev pub leftOf : (area map : List ℕ) → Left
+leftOf area map = record { area = area; map = map }
+
+abbrev pub leftBy : ReceiveOutcome → Left
+leftBy o = leftOf (o .area) (o .map)
 
 -- 2e + f, summed over a copy's words; words past J have no figures
 abbrev pub damageOf : Figures → ℕ
@@ -47,7 +59,7 @@ damage figures = total 16 (damageAt figures)
 
 -- ---- which is handed back
 
--- the mast that is used, what is answered, what is left in the two areas, and the payload as a part of one of them
+-- the mast that is used, what is answered, what is left for the two copies, and the payload as a part of one area
 pub record MastsOutcome : Type 0 where
   pub mast : Mast
   pub number : ℕ
@@ -55,20 +67,20 @@ pub record MastsOutcome : Type 0 where
   pub sequence : ℕ
   pub back : ℕ
   pub figures : List Figures
-  pub first : List ℕ
-  pub second : List ℕ
+  pub first : Left
+  pub second : Left
   pub payload : List ℕ
 
 module _ (a b : ReceiveOutcome) where
-  -- one copy's answer is handed back, and each area is left as its own call leaves it
+  -- one copy's answer is handed back, and each area and map is left as its own call leaves it
   abbrev pub giving : Mast → ReceiveOutcome → MastsOutcome
   giving mast o =
-      record { mast = mast; number = o .number; word = o .word; sequence = o .sequence; back = o .back; figures = o .figures; first = a .area; second = b .area; payload = o .payload }
+      record { mast = mast; number = o .number; word = o .word; sequence = o .sequence; back = o .back; figures = o .figures; first = leftBy a; second = leftBy b; payload = o .payload }
 
   -- both accepted: 8 where they are two frames, else the one that took less damage, the first on a tie
   unfoldable pub bothAccepted : MastsOutcome
   bothAccepted =
-      if not (eqb (a .sequence) (b .sequence)) then giving Neither (refusedFrame 8 0 []) else
+      if not (eqb (a .sequence) (b .sequence)) then giving Neither (refusedFrame 8 0 [] []) else
       if leb (damage (a .figures)) (damage (b .figures)) then giving First a else
       giving Second b
 
@@ -82,7 +94,7 @@ module _ (a b : ReceiveOutcome) where
 unfoldable pub receivingMasts : Framing → (first second : Copy) → MastsOutcome
 receivingMasts f first second = choosing (alone f first) (alone f second)
 
--- what hearing both answers and leaves: the answer with the areas, and the record after it
+-- what hearing both answers and leaves: the answer with what is left, and the record after it
 pub record HearMastsOutcome : Type 0 where
   pub frame : MastsOutcome
   pub next : Record
@@ -95,7 +107,7 @@ hearingMasts before f first second =
 
 -- both whole areas and the payload, as one call hands them back
 abbrev pub handedBackMasts : MastsOutcome → List (List ℕ)
-handedBackMasts o = o .first ∷ o .second ∷ o .payload ∷ []
+handedBackMasts o = o .first .area ∷ o .second .area ∷ o .payload ∷ []
 
 -- ---- the code's answer in these terms
 
@@ -116,8 +128,8 @@ payloadOfUsed First r first second = payloadOf r first
 payloadOfUsed Second r first second = payloadOf r second
 payloadOfUsed Neither r first second = []
 
--- an answer with what it leaves in the two areas
-abbrev pub chosenOutcome : Chosen → (first second : List ℕ) → MastsOutcome
+-- an answer with what it leaves for the two copies
+abbrev pub chosenOutcome : Chosen → (first second : Left) → MastsOutcome
 chosenOutcome r first second =
     record {
       mast = r .mast;
@@ -128,12 +140,12 @@ chosenOutcome r first second =
       figures = r .figures;
       first = first;
       second = second;
-      payload = payloadOfUsed (r .mast) (usedCopy r) first second;
+      payload = payloadOfUsed (r .mast) (usedCopy r) (first .area) (second .area);
     }
 
-abbrev pub hearMastsOutcome : Chosen → Record → (first second : List ℕ) → HearMastsOutcome
+abbrev pub hearMastsOutcome : Chosen → Record → (first second : Left) → HearMastsOutcome
 hearMastsOutcome answer next first second = record { frame = chosenOutcome answer first second; next = next }
 
--- an answer that is chosen of two, whatever their areas
+-- an answer that is chosen of two, whatever they leave
 pub record Chooses (a b : Received) (r : Chosen) : Type 0 where
-  pub outcome : (first second : List ℕ) → chosenOutcome r first second ≡ choosing (receiveOutcome a first) (receiveOutcome b second)
+  pub outcome : (first second : Left) → chosenOutcome r first second ≡ choosing (receiveOutcome a (first .area) (first .map)) (receiveOutcome b (second .area) (second .map))

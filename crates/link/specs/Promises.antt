@@ -8,45 +8,47 @@ use Rattle.frame.specs.Frame.{handedBack, receiving, numberOf}
 use Rattle.frame.specs.Promises.{Receives, receives-once}
 use Rattle.record.specs.Promises.{Notes}
 use Rattle.link.specs.Receiver.{HearOutcome, hearOutcome, hearing}
-use Rattle.link.specs.Masts.{Copy, alone, MastsOutcome, choosing, chosenOutcome, Chooses, receivingMasts, HearMastsOutcome, hearMastsOutcome, hearingMasts, handedBackMasts, payloadOfUsed, usedCopy}
-use Rattle.link.specs.Masts.Laws.{own-areas}
+use Rattle.link.specs.Masts.{Copy, alone, Left, leftBy, MastsOutcome, choosing, chosenOutcome, Chooses, receivingMasts, HearMastsOutcome, hearMastsOutcome, hearingMasts, handedBackMasts, payloadOfUsed, usedCopy}
+use Rattle.link.specs.Masts.Laws.{own-left}
 use Rattle.link.specs.declared.choice.Chosen.{Chosen}
 use Rattle.frame.specs.declared.setting.Framing.{Framing}
 use Rattle.frame.specs.declared.setting.Received.{Received}
 use Rattle.record.specs.declared.Record.{Record}
 
--- `receive_part`: the whole area and the payload
-pub record ReceivesPart (f : Framing) (slots marks area : List ℕ) (parts : List (List ℕ)) : Type 0 where
-  pub outcome : parts ≡ handedBack (receiving f slots marks area)
+-- `receive_part`: the whole area and the payload, and what is left in the map
+pub record ReceivesPart (f : Framing) (slots marks area map : List ℕ) (parts : List (List ℕ)) (left-map : List ℕ) : Type 0 where
+  pub outcome : parts ≡ handedBack (receiving f slots marks area map)
+  pub mapped : left-map ≡ receiving f slots marks area map .map
 
-pub receives-part-once : {f : Framing} {slots marks area : List ℕ} {p q : List (List ℕ)} → ReceivesPart f slots marks area p → ReceivesPart f slots marks area q → p ≡ q
-receives-part-once p q = p .outcome ∙ sym (q .outcome)
+pub receives-part-once : {f : Framing} {slots marks area map : List ℕ} {p q : List (List ℕ)} {u v : List ℕ}
+    → ReceivesPart f slots marks area map p u → ReceivesPart f slots marks area map q v → (p ≡ q) × (u ≡ v)
+receives-part-once p q = (p .outcome ∙ sym (q .outcome), p .mapped ∙ sym (q .mapped))
 
 -- `hear` gives this answer and this record, and `hear_in` leaves the record where the old one stood
-pub record Hears (before : Record) (f : Framing) (slots marks area : List ℕ) (answer : Received) (next : Record) (left : List ℕ) : Type 0 where
-  pub outcome : hearOutcome answer next left ≡ hearing before f slots marks area
+pub record Hears (before : Record) (f : Framing) (slots marks area map : List ℕ) (answer : Received) (next : Record) (left left-map : List ℕ) : Type 0 where
+  pub outcome : hearOutcome answer next left left-map ≡ hearing before f slots marks area map
 
-pub hears-once : {before : Record} {f : Framing} {slots marks area : List ℕ} {r s : Received} {n m : Record} {x y : List ℕ}
-    → Hears before f slots marks area r n x → Hears before f slots marks area s m y → (r ≡ s) × (n ≡ m) × (x ≡ y)
+pub hears-once : {before : Record} {f : Framing} {slots marks area map : List ℕ} {r s : Received} {n m : Record} {x y u v : List ℕ}
+    → Hears before f slots marks area map r n x u → Hears before f slots marks area map s m y v → (r ≡ s) × (n ≡ m) × (x ≡ y) × (u ≡ v)
 unfolding hearing
 hears-once p q =
-    let (a, b) = receives-once (record { outcome = ap (λ (o : HearOutcome). o .frame) (p .outcome) }) (record { outcome = ap (λ (o : HearOutcome). o .frame) (q .outcome) }) in
-    (a, ap (λ (o : HearOutcome). o .next) (p .outcome ∙ sym (q .outcome)), b)
+    let (a, b, c) = receives-once (record { outcome = ap (λ (o : HearOutcome). o .frame) (p .outcome) }) (record { outcome = ap (λ (o : HearOutcome). o .frame) (q .outcome) }) in
+    (a, ap (λ (o : HearOutcome). o .next) (p .outcome ∙ sym (q .outcome)), b, c)
 
 -- hearing is receiving, and noting the number and sequence number that the frame was answered
-pub received-and-noted : {before : Record} {f : Framing} {slots marks area : List ℕ} {answer : Received} {number : ℕ} {next : Record} {left : List ℕ}
-    → Receives f slots marks area answer left → number ≡ numberOf (answer .verdict) → Notes before number (answer .sequence) next
-    → Hears before f slots marks area answer next left
+pub received-and-noted : {before : Record} {f : Framing} {slots marks area map : List ℕ} {answer : Received} {number : ℕ} {next : Record} {left left-map : List ℕ}
+    → Receives f slots marks area map answer left left-map → number ≡ numberOf (answer .verdict) → Notes before number (answer .sequence) next
+    → Hears before f slots marks area map answer next left left-map
 unfolding hearing
 received-and-noted e k n = record { outcome = rw (sym (e .outcome), n .outcome, k) }
 
 -- ---- two masts
 
 -- `receive_masts`
-pub record ReceivesMasts (f : Framing) (first second : Copy) (answer : Chosen) (left-first left-second : List ℕ) : Type 0 where
+pub record ReceivesMasts (f : Framing) (first second : Copy) (answer : Chosen) (left-first left-second : Left) : Type 0 where
   pub outcome : chosenOutcome answer left-first left-second ≡ receivingMasts f first second
 
-pub receives-masts-once : {f : Framing} {first second : Copy} {r s : Chosen} {x y x′ y′ : List ℕ}
+pub receives-masts-once : {f : Framing} {first second : Copy} {r s : Chosen} {x y x′ y′ : Left}
     → ReceivesMasts f first second r x x′ → ReceivesMasts f first second s y y′ → (r ≡ s) × (x ≡ y) × (x′ ≡ y′)
 receives-masts-once p q =
     let same = p .outcome ∙ sym (q .outcome) in (
@@ -62,18 +64,20 @@ pub record HandsBackOne (first second : List ℕ) (answer : Chosen) (part : List
 pub hands-back-one-once : {first second : List ℕ} {answer : Chosen} {x y : List ℕ} → HandsBackOne first second answer x → HandsBackOne first second answer y → x ≡ y
 hands-back-one-once p q = p .outcome ∙ sym (q .outcome)
 
--- `receive_masts_part`: both whole areas and the payload
-pub record ReceivesMastsPart (f : Framing) (first second : Copy) (parts : List (List ℕ)) : Type 0 where
+-- `receive_masts_part`: both whole areas and the payload, and what is left in the maps
+pub record ReceivesMastsPart (f : Framing) (first second : Copy) (parts : List (List ℕ)) (first-map second-map : List ℕ) : Type 0 where
   pub outcome : parts ≡ handedBackMasts (receivingMasts f first second)
+  pub mapped : (first-map ≡ receivingMasts f first second .first .map) × (second-map ≡ receivingMasts f first second .second .map)
 
-pub receives-masts-part-once : {f : Framing} {first second : Copy} {p q : List (List ℕ)} → ReceivesMastsPart f first second p → ReceivesMastsPart f first second q → p ≡ q
-receives-masts-part-once p q = p .outcome ∙ sym (q .outcome)
+pub receives-masts-part-once : {f : Framing} {first second : Copy} {p q : List (List ℕ)} {x y x′ y′ : List ℕ}
+    → ReceivesMastsPart f first second p x x′ → ReceivesMastsPart f first second q y y′ → (p ≡ q) × (x ≡ y) × (x′ ≡ y′)
+receives-masts-part-once p q = (p .outcome ∙ sym (q .outcome), p .mapped .0 ∙ sym (q .mapped .0), p .mapped .1 ∙ sym (q .mapped .1))
 
 -- `hear_masts` gives this answer and this record, and `hear_masts_in` leaves the record where the old one stood
-pub record HearsMasts (before : Record) (f : Framing) (first second : Copy) (answer : Chosen) (next : Record) (left-first left-second : List ℕ) : Type 0 where
+pub record HearsMasts (before : Record) (f : Framing) (first second : Copy) (answer : Chosen) (next : Record) (left-first left-second : Left) : Type 0 where
   pub outcome : hearMastsOutcome answer next left-first left-second ≡ hearingMasts before f first second
 
-pub hears-masts-once : {before : Record} {f : Framing} {first second : Copy} {r s : Chosen} {n m : Record} {x y x′ y′ : List ℕ}
+pub hears-masts-once : {before : Record} {f : Framing} {first second : Copy} {r s : Chosen} {n m : Record} {x y x′ y′ : Left}
     → HearsMasts before f first second r n x x′ → HearsMasts before f first second s m y y′ → (r ≡ s) × (n ≡ m) × (x ≡ y) × (x′ ≡ y′)
 unfolding hearingMasts
 hears-masts-once p q =
@@ -81,21 +85,22 @@ hears-masts-once p q =
     (a, ap (λ (o : HearMastsOutcome). o .next) (p .outcome ∙ sym (q .outcome)), b, c)
 
 -- receiving two copies is receiving each, and choosing
-pub each-received : {f : Framing} {first second : Copy} {a b : Received} {answer : Chosen} {x y : List ℕ}
-    → Receives f (first .slots) (first .marks) (first .area) a x → Receives f (second .slots) (second .marks) (second .area) b y → Chooses a b answer → ReceivesMasts f first second answer x y
+pub each-received : {f : Framing} {first second : Copy} {a b : Received} {answer : Chosen} {x y : Left}
+    → Receives f (first .slots) (first .marks) (first .area) (first .map) a (x .area) (x .map) → Receives f (second .slots) (second .marks) (second .area) (second .map) b (y .area) (y .map)
+    → Chooses a b answer → ReceivesMasts f first second answer x y
 unfolding receivingMasts
 each-received {x = x} {y = y} p q e = record { outcome = e .outcome x y ∙ ap₂ choosing (p .outcome) (q .outcome) }
 
 -- hearing them is receiving both, and noting once the number and sequence number that are handed back
-pub masts-received-and-noted : {before : Record} {f : Framing} {first second : Copy} {answer : Chosen} {next : Record} {x y : List ℕ}
+pub masts-received-and-noted : {before : Record} {f : Framing} {first second : Copy} {answer : Chosen} {next : Record} {x y : Left}
     → ReceivesMasts f first second answer x y → Notes before (answer .number) (answer .sequence) next → HearsMasts before f first second answer next x y
 unfolding hearingMasts
 masts-received-and-noted e n = record { outcome = rw (sym (e .outcome), n .outcome) }
 
--- each area is left as its copy's own call leaves it: a wrong length or mark in one copy never touches the other's
-pub areas-apart : {f : Framing} {first second : Copy} {answer : Chosen} {x y : List ℕ}
-    → ReceivesMasts f first second answer x y → (x ≡ alone f first .area) × (y ≡ alone f second .area)
+-- each area and map is left as its copy's own call leaves it: a wrong length or mark in one copy never touches the other's
+pub copies-apart : {f : Framing} {first second : Copy} {answer : Chosen} {x y : Left}
+    → ReceivesMasts f first second answer x y → (x ≡ leftBy (alone f first)) × (y ≡ leftBy (alone f second))
 unfolding receivingMasts
-areas-apart {f = f} {first = first} {second = second} p =
-    let (l, m) = own-areas (alone f first) (alone f second) in
+copies-apart {f = f} {first = first} {second = second} p =
+    let (l, m) = own-left (alone f first) (alone f second) in
     (ap (λ (o : MastsOutcome). o .first) (p .outcome) ∙ l, ap (λ (o : MastsOutcome). o .second) (p .outcome) ∙ m)

@@ -8,16 +8,16 @@ use Rattle.frame.specs.declared.setting.Framing.{Framing}
 use Rattle.frame.specs.declared.setting.Received.{Received}
 use Rattle.record.specs.declared.Record.{Record}
 
--- what hearing a frame answers and leaves: the frame's answer with the area, and the record after it
+-- what hearing a frame answers and leaves: the frame's answer with the area and the map, and the record after it
 pub record HearOutcome : Type 0 where
   pub frame : ReceiveOutcome
   pub next : Record
 
-abbrev pub hearOutcome : Received → Record → List ℕ → HearOutcome
-hearOutcome answer next area = record { frame = receiveOutcome answer area; next = next }
+abbrev pub hearOutcome : Received → Record → (area map : List ℕ) → HearOutcome
+hearOutcome answer next area map = record { frame = receiveOutcome answer area map; next = next }
 
 -- the frame is received, and the number and sequence number that it was answered are noted
-unfoldable pub hearing : Record → Framing → (slots marks area : List ℕ) → HearOutcome
-hearing before f slots marks area =
-    let o = receiving f slots marks area in
+unfoldable pub hearing : Record → Framing → (slots marks area map : List ℕ) → HearOutcome
+hearing before f slots marks area map =
+    let o = receiving f slots marks area map in
     record { frame = o; next = noted before (o .number) (o .sequence) }

@@ -14,11 +14,18 @@ pub struct Heard {
     pub answer: Received,
 }
 
-// Receives a frame into the lent area as `receive` does, and notes its number and its sequence number in the record.
-pub fn hear(before: Record, f: Framing, slots: &[u8], marks: &[u8], area: &mut [u8]) -> Heard
-    ensures { λ t. ⌜ Hears before f (now (slots .entry)) (now (marks .entry)) (now (area .entry)) (t .answer) (t .next) (now (area .exit)) ⌝ }
+// Receives a frame into the lent area and map as `receive` does, and notes its number and its sequence number in the record.
+pub fn hear(
+    before: Record,
+    f: Framing,
+    slots: &[u8],
+    marks: &[u8],
+    area: &mut [u8],
+    map: &mut [u8],
+) -> Heard
+    ensures { λ t. ⌜ Hears before f (now (slots .entry)) (now (marks .entry)) (now (area .entry)) (now (map .entry)) (t .answer) (t .next) (now (area .exit)) (now (map .exit)) ⌝ }
 {
-    let answer = receive(f, slots, marks, area);
+    let answer = receive(f, slots, marks, area, map);
     let verdict = answer.verdict;
     let next = note(before, number_of(verdict), answer.sequence);
     Heard { next, answer }
@@ -31,10 +38,11 @@ pub fn hear_in(
     slots: &[u8],
     marks: &[u8],
     area: &mut [u8],
+    map: &mut [u8],
 ) -> Received
-    ensures { λ a. ⌜ Hears (now (lent .entry)) f (now (slots .entry)) (now (marks .entry)) (now (area .entry)) a (now (lent .exit)) (now (area .exit)) ⌝ }
+    ensures { λ a. ⌜ Hears (now (lent .entry)) f (now (slots .entry)) (now (marks .entry)) (now (area .entry)) (now (map .entry)) a (now (lent .exit)) (now (area .exit)) (now (map .exit)) ⌝ }
 {
-    let t = hear(*lent, f, slots, marks, area);
+    let t = hear(*lent, f, slots, marks, area, map);
     *lent = t.next;
     t.answer
 }

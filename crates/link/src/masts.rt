@@ -1,8 +1,8 @@
 // Two masts: document 02, No. 1. Two receivers hear one frame, each with its own damage. Both copies are decoded, each into an area of its
-// own, and one frame is handed back and noted.
+// own and with a map of its own, and one frame is handed back and noted.
 ghost use mathlib.Core.Path.{_≡_};
 ghost use mathlib.Core.List.{map};
-ghost use Rattle.link.specs.Masts.{copyOf, usedCopy};
+ghost use Rattle.link.specs.Masts.{copyOf, leftOf, usedCopy};
 ghost use Rattle.link.specs.Promises.{ReceivesMasts, HandsBackOne, ReceivesMastsPart, HearsMasts};
 use crate::choice::Chosen;
 use crate::choice::Mast;
@@ -21,20 +21,22 @@ pub struct MastsHeard {
     pub answer: Chosen,
 }
 
-// Decodes each copy into its area as `receive` does, and answers the better one. A copy that is refused leaves the other as it is.
+// Decodes each copy into its area and map as `receive` does, and answers the better one. A copy that is refused leaves the other as it is.
 pub fn receive_masts(
     f: Framing,
     slots1: &[u8],
     marks1: &[u8],
     area1: &mut [u8],
+    map1: &mut [u8],
     slots2: &[u8],
     marks2: &[u8],
     area2: &mut [u8],
+    map2: &mut [u8],
 ) -> Chosen
-    ensures { λ r. ⌜ ReceivesMasts f (copyOf (now (slots1 .entry)) (now (marks1 .entry)) (now (area1 .entry))) (copyOf (now (slots2 .entry)) (now (marks2 .entry)) (now (area2 .entry))) r (now (area1 .exit)) (now (area2 .exit)) ⌝ }
+    ensures { λ r. ⌜ ReceivesMasts f (copyOf (now (slots1 .entry)) (now (marks1 .entry)) (now (area1 .entry)) (now (map1 .entry))) (copyOf (now (slots2 .entry)) (now (marks2 .entry)) (now (area2 .entry)) (now (map2 .entry))) r (leftOf (now (area1 .exit)) (now (map1 .exit))) (leftOf (now (area2 .exit)) (now (map2 .exit))) ⌝ }
 {
-    let one = receive(f, slots1, marks1, area1);
-    let other = receive(f, slots2, marks2, area2);
+    let one = receive(f, slots1, marks1, area1, map1);
+    let other = receive(f, slots2, marks2, area2, map2);
     choose(one, other)
 }
 
@@ -76,20 +78,24 @@ pub fn receive_masts_part<'a>(
     slots1: &[u8],
     marks1: &[u8],
     area1: &'a mut [u8],
+    map1: &mut [u8],
     slots2: &[u8],
     marks2: &[u8],
     area2: &'a mut [u8],
+    map2: &mut [u8],
 ) -> [&'a [u8]; 3]
-    ensures { λ p. ⌜ ReceivesMastsPart f (copyOf (now (slots1 .entry)) (now (marks1 .entry)) (now (area1 .entry))) (copyOf (now (slots2 .entry)) (now (marks2 .entry)) (now (area2 .entry))) (map now p) ⌝ }
+    ensures { λ p. ⌜ ReceivesMastsPart f (copyOf (now (slots1 .entry)) (now (marks1 .entry)) (now (area1 .entry)) (now (map1 .entry))) (copyOf (now (slots2 .entry)) (now (marks2 .entry)) (now (area2 .entry)) (now (map2 .entry))) (map now p) (now (map1 .exit)) (now (map2 .exit)) ⌝ }
 {
     let r = receive_masts(
         f,
         slots1,
         marks1,
         &mut area1[..],
+        map1,
         slots2,
         marks2,
         &mut area2[..],
+        map2,
     );
     let s = &area1[..];
     let t = &area2[..];
@@ -104,13 +110,15 @@ pub fn hear_masts(
     slots1: &[u8],
     marks1: &[u8],
     area1: &mut [u8],
+    map1: &mut [u8],
     slots2: &[u8],
     marks2: &[u8],
     area2: &mut [u8],
+    map2: &mut [u8],
 ) -> MastsHeard
-    ensures { λ t. ⌜ HearsMasts before f (copyOf (now (slots1 .entry)) (now (marks1 .entry)) (now (area1 .entry))) (copyOf (now (slots2 .entry)) (now (marks2 .entry)) (now (area2 .entry))) (t .answer) (t .next) (now (area1 .exit)) (now (area2 .exit)) ⌝ }
+    ensures { λ t. ⌜ HearsMasts before f (copyOf (now (slots1 .entry)) (now (marks1 .entry)) (now (area1 .entry)) (now (map1 .entry))) (copyOf (now (slots2 .entry)) (now (marks2 .entry)) (now (area2 .entry)) (now (map2 .entry))) (t .answer) (t .next) (leftOf (now (area1 .exit)) (now (map1 .exit))) (leftOf (now (area2 .exit)) (now (map2 .exit))) ⌝ }
 {
-    let answer = receive_masts(f, slots1, marks1, area1, slots2, marks2, area2);
+    let answer = receive_masts(f, slots1, marks1, area1, map1, slots2, marks2, area2, map2);
     let next = note(before, answer.number, answer.sequence);
     MastsHeard { next, answer }
 }
@@ -122,13 +130,26 @@ pub fn hear_masts_in(
     slots1: &[u8],
     marks1: &[u8],
     area1: &mut [u8],
+    map1: &mut [u8],
     slots2: &[u8],
     marks2: &[u8],
     area2: &mut [u8],
+    map2: &mut [u8],
 ) -> Chosen
-    ensures { λ a. ⌜ HearsMasts (now (lent .entry)) f (copyOf (now (slots1 .entry)) (now (marks1 .entry)) (now (area1 .entry))) (copyOf (now (slots2 .entry)) (now (marks2 .entry)) (now (area2 .entry))) a (now (lent .exit)) (now (area1 .exit)) (now (area2 .exit)) ⌝ }
+    ensures { λ a. ⌜ HearsMasts (now (lent .entry)) f (copyOf (now (slots1 .entry)) (now (marks1 .entry)) (now (area1 .entry)) (now (map1 .entry))) (copyOf (now (slots2 .entry)) (now (marks2 .entry)) (now (area2 .entry)) (now (map2 .entry))) a (now (lent .exit)) (leftOf (now (area1 .exit)) (now (map1 .exit))) (leftOf (now (area2 .exit)) (now (map2 .exit))) ⌝ }
 {
-    let t = hear_masts(*lent, f, slots1, marks1, area1, slots2, marks2, area2);
+    let t = hear_masts(
+        *lent,
+        f,
+        slots1,
+        marks1,
+        area1,
+        map1,
+        slots2,
+        marks2,
+        area2,
+        map2,
+    );
     *lent = t.next;
     t.answer
 }

@@ -17,7 +17,7 @@ use Rattle.frame.specs.Promises.{verdict-as}
 use Rattle.frame.specs.declared.setting.Received.{Received}
 use Rattle.frame.specs.declared.setting.Verdict.{Verdict}
 use Rattle.frame.specs.declared.setting.Verdict.the-variants.{Done, BadSetting, BadLength, BadMark, BeyondReach, BadTrailer}
-use Rattle.link.specs.Masts.{damageAt, damage, MastsOutcome, giving, bothAccepted, choosing, handedOn, differing, payloadOfUsed, chosenOutcome, Chooses}
+use Rattle.link.specs.Masts.{damageAt, damage, Left, leftBy, MastsOutcome, giving, bothAccepted, choosing, handedOn, differing, payloadOfUsed, chosenOutcome, Chooses}
 use Rattle.link.specs.declared.choice.Mast.{Mast}
 use Rattle.link.specs.declared.choice.Mast.the-variants.{First, Second, Neither}
 use Rattle.link.specs.declared.choice.Chosen.{Chosen}
@@ -47,10 +47,10 @@ module _ (a b : ReceiveOutcome) where
     unfolding choosing
     choosing-accepted = new (b .number) _ _ y ∙ new (a .number) _ _ z
 
-    pub choosing-differ : a .sequence ≢ b .sequence → giving a b Neither (refusedFrame 8 0 []) ≡ choosing a b
+    pub choosing-differ : a .sequence ≢ b .sequence → giving a b Neither (refusedFrame 8 0 [] []) ≡ choosing a b
     unfolding bothAccepted
     choosing-differ n =
-        let e : giving a b Neither (refusedFrame 8 0 []) ≡ bothAccepted a b = rw (ne-eqb (a .sequence) (b .sequence) n) in
+        let e : giving a b Neither (refusedFrame 8 0 [] []) ≡ bothAccepted a b = rw (ne-eqb (a .sequence) (b .sequence) n) in
         e ∙ choosing-accepted
 
     pub choosing-better-first : a .sequence ≡ b .sequence → damage (a .figures) ≤ damage (b .figures) → giving a b First a ≡ choosing a b
@@ -65,23 +65,23 @@ module _ (a b : ReceiveOutcome) where
         let e : giving a b Second b ≡ bothAccepted a b = rw (eq-eqb (a .sequence) (b .sequence) s, lt-leb (damage (a .figures)) (damage (b .figures)) l) in
         e ∙ choosing-accepted
 
-  -- ---- the areas
+  -- ---- the areas and the maps
 
   -- each is left as its own copy's call leaves it, whatever the other copy is and whichever is used
-  abbrev OwnAreas : MastsOutcome → Type 0
-  OwnAreas o = (o .first ≡ a .area) × (o .second ≡ b .area)
+  abbrev OwnLeft : MastsOutcome → Type 0
+  OwnLeft o = (o .first ≡ leftBy a) × (o .second ≡ leftBy b)
 
-  own-if-zero : (n : ℕ) (x y : MastsOutcome) → OwnAreas x → OwnAreas y → OwnAreas (ifZero n x y)
+  own-if-zero : (n : ℕ) (x y : MastsOutcome) → OwnLeft x → OwnLeft y → OwnLeft (ifZero n x y)
   own-if-zero zero x y p q = p
   own-if-zero (suc n) x y p q = q
 
-  own-if : (t : Bool) (x y : MastsOutcome) → OwnAreas x → OwnAreas y → OwnAreas (if t then x else y)
+  own-if : (t : Bool) (x y : MastsOutcome) → OwnLeft x → OwnLeft y → OwnLeft (if t then x else y)
   own-if true x y p q = p
   own-if false x y p q = q
 
-  pub own-areas : OwnAreas (choosing a b)
+  pub own-left : OwnLeft (choosing a b)
   unfolding choosing bothAccepted
-  own-areas =
+  own-left =
       own-if-zero (a .number) _ _
       (own-if-zero (b .number) _ _
       (own-if (not (eqb (a .sequence) (b .sequence))) _ _ (refl, refl) (own-if (leb (damage (a .figures)) (damage (b .figures))) _ _ (refl, refl) (refl, refl)))
@@ -91,7 +91,7 @@ module _ (a b : ReceiveOutcome) where
 -- ---- the code's answers
 
 -- a copy's answer as that of both, with the payload that another answer would hand back
-abbrev handed : Mast → (a u : Received) → (first second : List ℕ) → MastsOutcome
+abbrev handed : Mast → (a u : Received) → (first second : Left) → MastsOutcome
 handed mast a u first second =
     record {
       mast = mast;
@@ -102,11 +102,15 @@ handed mast a u first second =
       figures = a .figures;
       first = first;
       second = second;
-      payload = payloadOfUsed mast u first second;
+      payload = payloadOfUsed mast u (first .area) (second .area);
     }
 
+-- a copy's answer with what it leaves
+abbrev told : Received → Left → ReceiveOutcome
+told r l = receiveOutcome r (l .area) (l .map)
+
 -- the copy that is used is the one that was handed on
-used-same : (mast : Mast) (a : Received) (first second : List ℕ) → chosenOutcome (handedOn mast a) first second ≡ handed mast a a first second
+used-same : (mast : Mast) (a : Received) (first second : Left) → chosenOutcome (handedOn mast a) first second ≡ handed mast a a first second
 used-same mast a first second =
     ap (λ (u : Received). handed mast a u first second) (λ i. record { verdict = verdict-as (a .verdict) i; sequence = a .sequence; back = a .back; figures = a .figures })
 
@@ -125,27 +129,27 @@ none-back a area = by-verdict (a .verdict)
 
 module _ (a b : Received) where
   pub chooses-first : numberOf (a .verdict) ≡ 0 → numberOf (b .verdict) ≢ 0 → Chooses a b (handedOn First a)
-  chooses-first z n = record { outcome = λ x y. used-same First a x y ∙ choosing-first (receiveOutcome a x) (receiveOutcome b y) z n }
+  chooses-first z n = record { outcome = λ x y. used-same First a x y ∙ choosing-first (told a x) (told b y) z n }
 
   pub chooses-second : numberOf (a .verdict) ≢ 0 → numberOf (b .verdict) ≡ 0 → Chooses a b (handedOn Second b)
-  chooses-second n z = record { outcome = λ x y. used-same Second b x y ∙ choosing-second (receiveOutcome a x) (receiveOutcome b y) n z }
+  chooses-second n z = record { outcome = λ x y. used-same Second b x y ∙ choosing-second (told a x) (told b y) n z }
 
   pub chooses-neither : numberOf (a .verdict) ≢ 0 → numberOf (b .verdict) ≢ 0 → Chooses a b (handedOn Neither a)
   chooses-neither n m = record {
     outcome = λ x y.
-        used-same Neither a x y ∙ ap (λ (p : List ℕ). record { mast = Neither; number = numberOf (a .verdict); word = wordNumber (a .verdict); sequence = a .sequence; back = a .back; figures = a .figures; first = x; second = y; payload = p }) (none-back a x n)
-        ∙ choosing-neither (receiveOutcome a x) (receiveOutcome b y) n m;
+        used-same Neither a x y ∙ ap (λ (p : List ℕ). record { mast = Neither; number = numberOf (a .verdict); word = wordNumber (a .verdict); sequence = a .sequence; back = a .back; figures = a .figures; first = x; second = y; payload = p }) (none-back a (x .area) n)
+        ∙ choosing-neither (told a x) (told b y) n m;
   }
 
   module _ (z : numberOf (a .verdict) ≡ 0) (y : numberOf (b .verdict) ≡ 0) where
     pub chooses-differ : a .sequence ≢ b .sequence → Chooses a b differing
-    chooses-differ n = record { outcome = λ s t. choosing-differ (receiveOutcome a s) (receiveOutcome b t) z y n }
+    chooses-differ n = record { outcome = λ s t. choosing-differ (told a s) (told b t) z y n }
 
     pub chooses-better-first : a .sequence ≡ b .sequence → damage (a .figures) ≤ damage (b .figures) → Chooses a b (handedOn First a)
-    chooses-better-first e l = record { outcome = λ s t. used-same First a s t ∙ choosing-better-first (receiveOutcome a s) (receiveOutcome b t) z y e l }
+    chooses-better-first e l = record { outcome = λ s t. used-same First a s t ∙ choosing-better-first (told a s) (told b t) z y e l }
 
     pub chooses-better-second : a .sequence ≡ b .sequence → damage (b .figures) < damage (a .figures) → Chooses a b (handedOn Second b)
-    chooses-better-second e l = record { outcome = λ s t. used-same Second b s t ∙ choosing-better-second (receiveOutcome a s) (receiveOutcome b t) z y e l }
+    chooses-better-second e l = record { outcome = λ s t. used-same Second b s t ∙ choosing-better-second (told a s) (told b t) z y e l }
 
   -- there is always an answer
   pub some-choice : (r : Chosen) × Chooses a b r

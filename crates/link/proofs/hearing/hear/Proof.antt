@@ -18,8 +18,11 @@ note-requires c κs = search needs
 same-length : tie.Need-same-length
 same-length c = search needs
 
+same-length-2 : tie.Need-same-length-2
+same-length-2 c = search needs
+
 returns : tie.Need-returns
-returns c = received-and-noted (c .before .before .before .before .receive .ensures) (c .before .number-of .ensures) (c .note .ensures)
+returns c = received-and-noted (c .before .before .before .before .before .before .receive .ensures) (c .before .number-of .ensures) (c .note .ensures)
 
 pub hear-spec : {M : Type 1} → statement M
-hear-spec = tie.close (tie.spec receive-requires number-of-requires note-requires same-length returns)
+hear-spec = tie.close (tie.spec receive-requires number-of-requires note-requires same-length same-length-2 returns)

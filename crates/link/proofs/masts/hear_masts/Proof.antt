@@ -17,9 +17,15 @@ same-length c = search needs
 same-length-2 : tie.Need-same-length-2
 same-length-2 c = search needs
 
+same-length-3 : tie.Need-same-length-3
+same-length-3 c = search needs
+
+same-length-4 : tie.Need-same-length-4
+same-length-4 c = search needs
+
 returns : tie.Need-returns
-returns c = masts-received-and-noted (c .before .before .before .before .before .receive-masts .ensures) (c .note .ensures)
+returns c = masts-received-and-noted (c .before .before .before .before .before .before .before .before .before .receive-masts .ensures) (c .note .ensures)
 
 pub hear-masts-spec : {M : Type 1} → statement M
 hear-masts-spec =
-    tie.close (tie.spec receive-masts-requires note-requires same-length same-length-2 returns)
+    tie.close (tie.spec receive-masts-requires note-requires same-length same-length-2 same-length-3 same-length-4 returns)

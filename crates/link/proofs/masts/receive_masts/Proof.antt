@@ -20,13 +20,16 @@ same-length c = search needs
 same-length-2 : tie.Need-same-length-2
 same-length-2 c = search needs
 
+same-length-3 : tie.Need-same-length-3
+same-length-3 c = search needs
+
+same-length-4 : tie.Need-same-length-4
+same-length-4 c = search needs
+
 returns : tie.Need-returns
-returns c =
-    let second = c .before .before .before in
-    let first = second .before .before .before .before in
-    each-received (first .receive .ensures) (second .receive2 .ensures) (c .choose .ensures)
+returns c = each-received (c .before .before .before .before .before .before .before .before .before .before .before .before .receive .ensures) (c .before .before .before .before .before .receive2 .ensures) (c .choose .ensures)
 
 pub receive-masts-spec : {M : Type 1} → statement M
 receive-masts-spec =
     tie.close
-    (tie.spec receive-requires receive-requires-2 choose-requires same-length same-length-2 returns)
+    (tie.spec receive-requires receive-requires-2 choose-requires same-length same-length-2 same-length-3 same-length-4 returns)

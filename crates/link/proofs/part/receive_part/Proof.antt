@@ -2,7 +2,7 @@
 -- Assumes nothing.
 use mathlib.Core.Path.{ap}
 use borrow.Author.Needs.{needs}
-use Rattle.frame.specs.Frame.{handedBack}
+use Rattle.frame.specs.Frame.{ReceiveOutcome, handedBack}
 use Rattle.link.proofs.part.receive_part.Statement.{statement}
 use Rattle.link.proofs.part.receive_part.Tie as tie
 
@@ -12,8 +12,13 @@ receive-requires c κs = search needs
 payload-requires : tie.Need-payload-requires
 payload-requires c κs = search needs
 
+same-length : tie.Need-same-length
+same-length c = search needs
+
 returns : tie.Need-returns
-returns c = record { outcome = rw (c .payload .ensures .outcome) (ap handedBack (c .before .before .before .before .receive .ensures .outcome)) }
+returns c =
+    let decoded = c .before .before .before .before .before .before .receive .ensures .outcome in
+    record { outcome = rw (c .payload .ensures .outcome) (ap handedBack decoded); mapped = ap (λ (o : ReceiveOutcome). o .map) decoded }
 
 pub receive-part-spec : {M : Type 1} → statement M
-receive-part-spec = tie.close (tie.spec receive-requires payload-requires returns)
+receive-part-spec = tie.close (tie.spec receive-requires payload-requires same-length returns)
