@@ -24,8 +24,8 @@ extern "C" {
 
 /*
  * The numbers that a call answers, checked in the order 1, 2, 3, 6, 4, 5, 8; on the cross line 7 comes before 4.
- * Under 1, 2, 3 and 6 every lent buffer and record stays as it was, but for the second area of two masts, which is left as
- * its own copy's answer says. What 4, 5, 7 and 8 leave stands at each call.
+ * Under 1, 2, 3 and 6 every lent buffer and record stays as it was, but for the second area and map of two masts, which are
+ * left as their own copy's answer says. What 4, 5, 7 and 8 leave stands at each call.
  * Under any answer but 0 the returned figures, sequence number, mast, byte and mark are 0.
  */
 #define YAXO_DONE 0         /* the result is there */
@@ -45,7 +45,11 @@ extern "C" {
 #define YAXO_AREA_MOST 4048
 #define YAXO_TRAILER_BYTES 4
 
-/* What an accepted word was found to have. */
+/*
+ * What an accepted word was found to have. Where it was changed stands in the map that every decoding call is lent, as long
+ * as what was received: 1 at each place where the corrected word differs from the received one, else 0. A marked symbol that
+ * was right has 0. What the map held before is not looked at. A caller who does not want it lends it all the same.
+ */
 typedef struct yaxo_figures {
     uint16_t errors; /* e: unmarked symbols that were wrong */
     uint16_t marked; /* f: marks, whether the symbol was wrong or not */
@@ -84,21 +88,27 @@ uint8_t yaxo_word_encode(yaxo_code code,
 /*
  * Decodes where the word stands, to the one codeword with 2e + f <= r.
  * word: n symbols as received, corrected. marks: n marks, read; 1 where the receiver distrusts the symbol, else 0.
- * Answers 0 with e, f and bits; 1 for the code; 2 for either length; 3 for a symbol of 2^m or more or a mark above 1;
- * 4 where no codeword is near enough. Refused, the word stays as received.
+ * map: n bytes, written: 1 at each place that was changed, else 0.
+ * Answers 0 with e, f and bits; 1 for the code; 2 for a length; 3 for a symbol of 2^m or more or a mark above 1;
+ * 4 where no codeword is near enough. Refused, the word stays as received; the map is zeros under 4, and stays under 1, 2
+ * and 3.
  */
 yaxo_decoded yaxo_word_decode(yaxo_code code,
                               uint8_t *word, size_t word_length,
-                              const uint8_t *marks, size_t marks_length);
+                              const uint8_t *marks, size_t marks_length,
+                              uint8_t *map, size_t map_length);
 
 /*
- * The same with the received word only read. part: k symbols, written: the message of the corrected word.
- * Answers as yaxo_word_decode does, and 2 also for a part that has not k symbols. Refused, the part stays, under 4 too.
+ * The same with the received word only read. part: k symbols, written: the message of the corrected word. The map is that of
+ * all n places, check symbols too.
+ * Answers as yaxo_word_decode does, and 2 also for a part that has not k symbols. Refused, the part stays, under 4 too; the
+ * map is left as yaxo_word_decode leaves it.
  */
 yaxo_decoded yaxo_word_decode_part(yaxo_code code,
                                    const uint8_t *received, size_t received_length,
                                    const uint8_t *marks, size_t marks_length,
-                                   uint8_t *part, size_t part_length);
+                                   uint8_t *part, size_t part_length,
+                                   uint8_t *map, size_t map_length);
 
 /* ---- Block interleaver ------------------------------------------------------------------------------------------- */
 
@@ -207,7 +217,7 @@ typedef struct yaxo_framing {
     uint32_t b;
 } yaxo_framing;
 
-/* The slots of a frame, and the bytes of its area. */
+/* The slots of a frame, and so its marks and its map; and the bytes of its area. */
 #define YAXO_FRAME_SLOTS(depth, n) ((size_t)(n) * (depth))
 #define YAXO_FRAME_AREA(depth, n, r) ((size_t)(depth) * ((n) - (r)))
 
@@ -235,13 +245,16 @@ uint8_t yaxo_frame_send(yaxo_framing framing,
 
 /*
  * Receives a frame. slots: n * depth bytes, and marks: a mark (0 or 1) for each; both only read. area: A bytes, written.
- * Answers 0, and the area holds the frame's area; 1 for the setting; 2 for a length; 3 for a mark above 1, and the area
- * stays; 4 where a word is beyond reach, with its number, and 5 for the trailer, and the area is zeros.
+ * map: n * depth bytes, written: 1 at each slot that was changed, else 0, in the order of the slots.
+ * Answers 0, and the area holds the frame's area; 1 for the setting; 2 for a length; 3 for a mark above 1, and area and map
+ * stay; 4 where a word is beyond reach, with its number, and 5 for the trailer, and area and map are zeros, also where other
+ * words were corrected.
  */
 yaxo_received yaxo_frame_receive(yaxo_framing framing,
                                  const uint8_t *slots, size_t slots_length,
                                  const uint8_t *marks, size_t marks_length,
-                                 uint8_t *area, size_t area_length);
+                                 uint8_t *area, size_t area_length,
+                                 uint8_t *map, size_t map_length);
 
 /* ---- The receiver's record --------------------------------------------------------------------------------------- */
 
@@ -287,16 +300,18 @@ typedef struct yaxo_heard {
     yaxo_received answer;
 } yaxo_heard;
 
-/* The receiver's whole call: yaxo_frame_receive, and its answer noted in the record. yaxo_hear gives the record after it,
- * yaxo_hear_in updates the lent one. */
+/* The receiver's whole call: yaxo_frame_receive, which leaves area and map as it says, and its answer noted in the record.
+ * yaxo_hear gives the record after it, yaxo_hear_in updates the lent one. */
 yaxo_heard yaxo_hear(yaxo_record before, yaxo_framing framing,
                      const uint8_t *slots, size_t slots_length,
                      const uint8_t *marks, size_t marks_length,
-                     uint8_t *area, size_t area_length);
+                     uint8_t *area, size_t area_length,
+                     uint8_t *map, size_t map_length);
 yaxo_received yaxo_hear_in(yaxo_record *record, yaxo_framing framing,
                            const uint8_t *slots, size_t slots_length,
                            const uint8_t *marks, size_t marks_length,
-                           uint8_t *area, size_t area_length);
+                           uint8_t *area, size_t area_length,
+                           uint8_t *map, size_t map_length);
 
 /* ---- Two masts --------------------------------------------------------------------------------------------------- */
 
@@ -313,20 +328,22 @@ typedef struct yaxo_chosen {
 
 /*
  * Receives two copies of one frame. The buffers are those of yaxo_frame_receive, the first mast's and then the second's.
- * Slots and marks are only read, so that one buffer may serve both copies; the two areas may not overlap. Each area is
- * left as yaxo_frame_receive leaves it, whatever the other copy was answered.
+ * Slots and marks are only read, so that one buffer may serve both copies; the two areas and the two maps may not overlap.
+ * Each area and each map is left as yaxo_frame_receive leaves it, whatever the other copy was answered.
  * Answers 0 where a copy is used. If both were accepted with one sequence number, that is the copy whose 2e + f, summed
  * over its words, is smaller, and the first where the sums are equal, even if the payloads differ. If one was refused, by
  * any number, it is the other. Where both were refused the answer is the first's number, and its word under 4. 8 where both
- * were accepted with different sequence numbers: they are two frames, and each area holds its own.
+ * were accepted with different sequence numbers: they are two frames, and each area and each map holds its own.
  */
 yaxo_chosen yaxo_masts_receive(yaxo_framing framing,
                                const uint8_t *first_slots, size_t first_slots_length,
                                const uint8_t *first_marks, size_t first_marks_length,
                                uint8_t *first_area, size_t first_area_length,
+                               uint8_t *first_map, size_t first_map_length,
                                const uint8_t *second_slots, size_t second_slots_length,
                                const uint8_t *second_marks, size_t second_marks_length,
-                               uint8_t *second_area, size_t second_area_length);
+                               uint8_t *second_area, size_t second_area_length,
+                               uint8_t *second_map, size_t second_map_length);
 
 /* The record after two copies, and what they were answered. */
 typedef struct yaxo_masts_heard {
@@ -343,16 +360,20 @@ yaxo_masts_heard yaxo_masts_hear(yaxo_record before, yaxo_framing framing,
                                  const uint8_t *first_slots, size_t first_slots_length,
                                  const uint8_t *first_marks, size_t first_marks_length,
                                  uint8_t *first_area, size_t first_area_length,
+                                 uint8_t *first_map, size_t first_map_length,
                                  const uint8_t *second_slots, size_t second_slots_length,
                                  const uint8_t *second_marks, size_t second_marks_length,
-                                 uint8_t *second_area, size_t second_area_length);
+                                 uint8_t *second_area, size_t second_area_length,
+                                 uint8_t *second_map, size_t second_map_length);
 yaxo_chosen yaxo_masts_hear_in(yaxo_record *record, yaxo_framing framing,
                                const uint8_t *first_slots, size_t first_slots_length,
                                const uint8_t *first_marks, size_t first_marks_length,
                                uint8_t *first_area, size_t first_area_length,
+                               uint8_t *first_map, size_t first_map_length,
                                const uint8_t *second_slots, size_t second_slots_length,
                                const uint8_t *second_marks, size_t second_marks_length,
-                               uint8_t *second_area, size_t second_area_length);
+                               uint8_t *second_area, size_t second_area_length,
+                               uint8_t *second_map, size_t second_map_length);
 
 /* ---- Cross line -------------------------------------------------------------------------------------------------- */
 
@@ -388,16 +409,20 @@ yaxo_ready yaxo_cross_send(size_t position,
                            uint8_t *word, size_t word_length);
 
 /*
- * Receives a frame. word: 32 bytes, read. message: 24 bytes, written with the message of 108 frames before.
+ * Receives a frame. word: 32 bytes, read. message: 24 bytes, written with the message of 108 frames before. map: 32 bytes,
+ * written: 1 at each byte of this frame's inner word that was changed, check bytes too, else 0.
  * Answers 0 with the outer word's figures. 7 for the first 108 frames: the line has taken the frame, and the message bytes
  * stay. 4 where the outer word is beyond reach: the line has taken the frame, and the message bytes are zeros.
+ * Under 0, 7 and 4 alike the map is the inner word's, and zeros where the inner word was beyond reach: it tells of the frame
+ * that came in, and not of the message that went out.
  * 1 for a position that no number of frames reaches, 2 for a length, 3 for a mark above 1 in `held`: all stays.
  */
 yaxo_cross_received yaxo_cross_receive(size_t position,
                                        uint8_t *memory, size_t memory_length,
                                        uint8_t *held, size_t held_length,
                                        const uint8_t *word, size_t word_length,
-                                       uint8_t *message, size_t message_length);
+                                       uint8_t *message, size_t message_length,
+                                       uint8_t *map, size_t map_length);
 
 #ifdef __cplusplus
 }

@@ -6,8 +6,8 @@ use crate::ffi;
 
 /// Why a call refused. The numbers are those of documents 01 and 02; 0 is no refusal.
 ///
-/// Under 1, 2, 3 and 6 every lent buffer stays as it was, but for the second area of [two masts](crate::masts), which is
-/// left as its own copy's answer says. What 4, 5, 7 and 8 leave is said at each call.
+/// Under 1, 2, 3 and 6 every lent buffer stays as it was, but for the second area and map of [two masts](crate::masts),
+/// which are left as their own copy's answer says. What 4, 5, 7 and 8 leave is said at each call.
 #[derive(Clone, Copy, Debug, PartialEq, Eq, Hash)]
 #[repr(u8)]
 pub enum Refusal {

@@ -80,8 +80,11 @@ impl<'a> Receiver<'a> {
     /// Refused 7 for the first 108 frames: the line has taken the frame, and the message bytes stay. Refused 4 where the
     /// outer word is beyond reach: the line has taken the frame, and the message bytes are zeros. Refused 1, 2 and 3 (a
     /// mark above 1 that is held), all stays as it was.
-    pub fn receive(&mut self, word: &[u8], message: &mut [u8]) -> Result<Figures, Refusal> {
-        let received = ffi::cross_receive(self.position, self.memory, self.held, word, message);
+    ///
+    /// `map` has 32 bytes. Wherever the line has taken the frame, under 0, 7 and 4, it becomes 1 at each byte of this frame
+    /// that the inner code changed and 0 elsewhere; it is zeros where the inner word was beyond reach.
+    pub fn receive(&mut self, word: &[u8], message: &mut [u8], map: &mut [u8]) -> Result<Figures, Refusal> {
+        let received = ffi::cross_receive(self.position, self.memory, self.held, word, message, map);
         self.position = received.position;
         answered(received.answer, received.figures.into())
     }

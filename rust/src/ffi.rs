@@ -25,15 +25,19 @@ pub fn word_encode(code: Code, message: &[u8], word: &mut [u8]) -> u8 {
     unsafe { header::yaxo_word_encode(code, message.as_ptr(), message.len(), word.as_mut_ptr(), word.len()) }
 }
 
-pub fn word_decode(code: Code, word: &mut [u8], marks: &[u8]) -> Decoded {
-    // Sound: two slices, of which the written one overlaps nothing.
-    unsafe { header::yaxo_word_decode(code, word.as_mut_ptr(), word.len(), marks.as_ptr(), marks.len()) }
+pub fn word_decode(code: Code, word: &mut [u8], marks: &[u8], map: &mut [u8]) -> Decoded {
+    let (symbols, n) = (word.as_mut_ptr(), word.len());
+    let (trust, trust_n) = (marks.as_ptr(), marks.len());
+    // Sound: three slices; the two that are written overlap nothing.
+    unsafe { header::yaxo_word_decode(code, symbols, n, trust, trust_n, map.as_mut_ptr(), map.len()) }
 }
 
-pub fn word_decode_part(code: Code, received: &[u8], marks: &[u8], part: &mut [u8]) -> Decoded {
+pub fn word_decode_part(code: Code, received: &[u8], marks: &[u8], part: &mut [u8], map: &mut [u8]) -> Decoded {
     let (word, n) = (received.as_ptr(), received.len());
-    // Sound: three slices, of which the written one overlaps nothing; the two that are read may be one.
-    unsafe { header::yaxo_word_decode_part(code, word, n, marks.as_ptr(), marks.len(), part.as_mut_ptr(), part.len()) }
+    let (trust, trust_n) = (marks.as_ptr(), marks.len());
+    let (out, k) = (part.as_mut_ptr(), part.len());
+    // Sound: four slices, of which the two written ones overlap nothing; the two that are read may be one.
+    unsafe { header::yaxo_word_decode_part(code, word, n, trust, trust_n, out, k, map.as_mut_ptr(), map.len()) }
 }
 
 pub fn block_spread(depth: usize, n: usize, words: &[u8], slots: &mut [u8]) -> u8 {
@@ -120,24 +124,36 @@ pub fn frame_send(framing: Framing, payload: &[u8], sequence: u16, slots: &mut [
     unsafe { header::yaxo_frame_send(framing, bytes, size, sequence, slots.as_mut_ptr(), slots.len()) }
 }
 
-pub fn frame_receive(framing: Framing, slots: &[u8], marks: &[u8], area: &mut [u8]) -> Received {
-    let mut out = Received::default();
-    let (bytes, size) = (slots.as_ptr(), slots.len());
-    let (trust, trust_size) = (marks.as_ptr(), marks.len());
-    // Sound: the result's place and three slices; the place and the written slice overlap nothing.
-    unsafe {
-        header::yaxo_frame_receive(&mut out, framing, bytes, size, trust, trust_size, area.as_mut_ptr(), area.len())
-    };
-    out
-}
-
-pub fn hear_in(record: &mut Record, framing: Framing, slots: &[u8], marks: &[u8], area: &mut [u8]) -> Received {
+pub fn frame_receive(framing: Framing, slots: &[u8], marks: &[u8], area: &mut [u8], map: &mut [u8]) -> Received {
     let mut out = Received::default();
     let (bytes, size) = (slots.as_ptr(), slots.len());
     let (trust, trust_size) = (marks.as_ptr(), marks.len());
     let (lent, a) = (area.as_mut_ptr(), area.len());
-    // Sound: the result's place, a record and three slices; what is written of them overlaps nothing.
-    unsafe { header::yaxo_hear_in(&mut out, record, framing, bytes, size, trust, trust_size, lent, a) };
+    let (changed, changed_size) = (map.as_mut_ptr(), map.len());
+    // Sound: the result's place and four slices; the place and the two written slices overlap nothing.
+    unsafe {
+        header::yaxo_frame_receive(&mut out, framing, bytes, size, trust, trust_size, lent, a, changed, changed_size)
+    };
+    out
+}
+
+pub fn hear_in(
+    record: &mut Record,
+    framing: Framing,
+    slots: &[u8],
+    marks: &[u8],
+    area: &mut [u8],
+    map: &mut [u8],
+) -> Received {
+    let mut out = Received::default();
+    let (bytes, size) = (slots.as_ptr(), slots.len());
+    let (trust, trust_size) = (marks.as_ptr(), marks.len());
+    let (lent, a) = (area.as_mut_ptr(), area.len());
+    let (changed, changed_size) = (map.as_mut_ptr(), map.len());
+    // Sound: the result's place, a record and four slices; what is written of them overlaps nothing.
+    unsafe {
+        header::yaxo_hear_in(&mut out, record, framing, bytes, size, trust, trust_size, lent, a, changed, changed_size)
+    };
     out
 }
 
@@ -160,7 +176,7 @@ pub fn record_note_in(record: &mut Record, answer: u8, sequence: u16) {
 
 pub fn masts_receive(framing: Framing, first: &mut Heard, second: &mut Heard) -> Chosen {
     let mut out = Chosen::default();
-    // Sound: the result's place and six slices; the place and the two written slices overlap nothing.
+    // Sound: the result's place and eight slices; the place and the four written slices overlap nothing.
     unsafe {
         header::yaxo_masts_receive(
             &mut out,
@@ -171,12 +187,16 @@ pub fn masts_receive(framing: Framing, first: &mut Heard, second: &mut Heard) ->
             first.marks.len(),
             first.area.as_mut_ptr(),
             first.area.len(),
+            first.map.as_mut_ptr(),
+            first.map.len(),
             second.slots.as_ptr(),
             second.slots.len(),
             second.marks.as_ptr(),
             second.marks.len(),
             second.area.as_mut_ptr(),
             second.area.len(),
+            second.map.as_mut_ptr(),
+            second.map.len(),
         )
     };
     out
@@ -184,7 +204,7 @@ pub fn masts_receive(framing: Framing, first: &mut Heard, second: &mut Heard) ->
 
 pub fn masts_hear_in(record: &mut Record, framing: Framing, first: &mut Heard, second: &mut Heard) -> Chosen {
     let mut out = Chosen::default();
-    // Sound: the result's place, a record and six slices; what is written of them overlaps nothing.
+    // Sound: the result's place, a record and eight slices; what is written of them overlaps nothing.
     unsafe {
         header::yaxo_masts_hear_in(
             &mut out,
@@ -196,12 +216,16 @@ pub fn masts_hear_in(record: &mut Record, framing: Framing, first: &mut Heard, s
             first.marks.len(),
             first.area.as_mut_ptr(),
             first.area.len(),
+            first.map.as_mut_ptr(),
+            first.map.len(),
             second.slots.as_ptr(),
             second.slots.len(),
             second.marks.as_ptr(),
             second.marks.len(),
             second.area.as_mut_ptr(),
             second.area.len(),
+            second.map.as_mut_ptr(),
+            second.map.len(),
         )
     };
     out
@@ -230,10 +254,13 @@ pub fn cross_receive(
     held: &mut [u8],
     word: &[u8],
     message: &mut [u8],
+    map: &mut [u8],
 ) -> CrossReceived {
     let (rings, size) = (memory.as_mut_ptr(), memory.len());
     let (marks, h) = (held.as_mut_ptr(), held.len());
+    let (bytes, n) = (word.as_ptr(), word.len());
     let (out, k) = (message.as_mut_ptr(), message.len());
-    // Sound: four slices; the three that are written overlap nothing.
-    unsafe { header::yaxo_cross_receive(position, rings, size, marks, h, word.as_ptr(), word.len(), out, k) }
+    let (changed, map_n) = (map.as_mut_ptr(), map.len());
+    // Sound: five slices; the four that are written overlap nothing.
+    unsafe { header::yaxo_cross_receive(position, rings, size, marks, h, bytes, n, out, k, changed, map_n) }
 }

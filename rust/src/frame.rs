@@ -15,9 +15,10 @@ use crate::record::Record;
 /// let mut slots = [0; 128];
 /// setting.send(b"tug 7 fast", 41, &mut slots)?;
 /// slots[30..38].fill(0xff); // A run of depth · r / 2 slots is struck.
-/// let mut area = [0; 112];
-/// let frame = setting.receive(&slots, &[0; 128], &mut area)?;
+/// let (mut area, mut map) = ([0; 112], [0; 128]);
+/// let frame = setting.receive(&slots, &[0; 128], &mut area, &mut map)?;
 /// assert_eq!((frame.sequence, frame.payload), (41, &b"tug 7 fast"[..]));
+/// assert!((0..128).all(|slot| map[slot] == (30..38).contains(&slot) as u8)); // The map shows the run.
 /// # Ok::<(), Box<dyn std::error::Error>>(())
 /// ```
 #[derive(Clone, Copy, Debug, PartialEq, Eq, Hash)]
@@ -72,7 +73,7 @@ impl fmt::Display for Refused {
 impl std::error::Error for Refused {}
 
 impl Setting {
-    /// The slots of a frame.
+    /// The slots of a frame, and so its marks and its map.
     pub const fn slots(self) -> usize {
         self.depth.saturating_mul(self.n)
     }
@@ -100,9 +101,17 @@ impl Setting {
 
     /// Decodes a frame into the lent area of A bytes and hands back the payload as a part of it.
     ///
-    /// Slots and marks are only read. Refused 1, 2 and 3, the area stays; refused 4 and 5, it is zeros.
-    pub fn receive<'a>(self, slots: &[u8], marks: &[u8], area: &'a mut [u8]) -> Result<Frame<'a>, Refused> {
-        let received = ffi::frame_receive(self.framing(), slots, marks, area);
+    /// Slots and marks are only read. `map` has a byte for each slot, and becomes 1 at each slot that was changed and 0
+    /// elsewhere. Refused 1, 2 and 3, area and map stay; refused 4 and 5, both are zeros, also where other words of the
+    /// frame were corrected.
+    pub fn receive<'a>(
+        self,
+        slots: &[u8],
+        marks: &[u8],
+        area: &'a mut [u8],
+        map: &mut [u8],
+    ) -> Result<Frame<'a>, Refused> {
+        let received = ffi::frame_receive(self.framing(), slots, marks, area, map);
         self.frame(received, area)
     }
 
@@ -113,8 +122,9 @@ impl Setting {
         slots: &[u8],
         marks: &[u8],
         area: &'a mut [u8],
+        map: &mut [u8],
     ) -> Result<Frame<'a>, Refused> {
-        let received = record.lend(|lent| ffi::hear_in(lent, self.framing(), slots, marks, area));
+        let received = record.lend(|lent| ffi::hear_in(lent, self.framing(), slots, marks, area, map));
         self.frame(received, area)
     }
 

@@ -16,7 +16,8 @@
 //!
 //! Nothing is allocated, nothing is kept between two calls but what the caller lends, and no call panics. A mark is 1
 //! where the receiver distrusts a byte and 0 elsewhere. A word comes back if twice the unmarked wrong symbols plus the
-//! marked ones is at most r.
+//! marked ones is at most r. Every call that decodes is lent a map too, which tells where it changed what was received; a
+//! caller who does not want it lends it all the same.
 #![cfg_attr(not(feature = "std"), no_std)]
 #![deny(unsafe_code, missing_docs)]
 // That no call panics is clippy's to check: nothing here could.

@@ -12,8 +12,9 @@
 //! east[8..20].fill(0xff); // A crane swings before the east mast: six slots of each word.
 //! west[3] = 0xff;
 //! let (mut east_area, mut west_area) = ([0; 16], [0; 16]);
-//! let first = Heard { slots: &east, marks: &[0; 24], area: &mut east_area };
-//! let second = Heard { slots: &west, marks: &[0; 24], area: &mut west_area };
+//! let (mut east_map, mut west_map) = ([0; 24], [0; 24]);
+//! let first = Heard { slots: &east, marks: &[0; 24], area: &mut east_area, map: &mut east_map };
+//! let second = Heard { slots: &west, marks: &[0; 24], area: &mut west_area, map: &mut west_map };
 //! let mut record = Record::fresh();
 //! let chosen = setting.hear_masts(&mut record, first, second)?;
 //! assert_eq!((chosen.mast, chosen.frame.payload), (Mast::Second, &b"tug 7 fast"[..]));
@@ -25,7 +26,7 @@ use crate::ffi;
 use crate::frame::{Frame, Refused, Setting};
 use crate::record::Record;
 
-/// What one mast heard, and the area of A bytes that is lent for its copy of the frame.
+/// What one mast heard, and the area of A bytes and the map that are lent for its copy of the frame.
 #[derive(Debug)]
 pub struct Heard<'a> {
     /// The slots as received.
@@ -34,6 +35,8 @@ pub struct Heard<'a> {
     pub marks: &'a [u8],
     /// Where the copy is decoded to.
     pub area: &'a mut [u8],
+    /// A byte for each slot, which becomes 1 where this copy's slot was changed and 0 elsewhere.
+    pub map: &'a mut [u8],
 }
 
 /// One of the two masts.
@@ -61,7 +64,7 @@ impl Setting {
     /// sums are equal. If one is refused, by any number, it is the other.
     ///
     /// Refused as the first copy is where both are, or 8 where both are accepted with different sequence numbers. Each
-    /// area is left as `receive` leaves it, whatever becomes of the other copy.
+    /// area and each map is left as `receive` leaves it, whatever becomes of the other copy: under 8 both are there.
     pub fn receive_masts<'a>(self, mut first: Heard<'a>, mut second: Heard<'a>) -> Result<Chosen<'a>, Refused> {
         let chosen = ffi::masts_receive(self.framing(), &mut first, &mut second);
         self.chosen(chosen, first.area, second.area)

@@ -8,11 +8,12 @@ use crate::ffi;
 /// ```
 /// use yaxopetzo::word::Setting;
 ///
-/// let mut word = [0; 204];
+/// let (mut word, mut map) = ([0; 204], [0; 204]);
 /// Setting::EN_300_421.encode(&[7; 188], &mut word)?;
 /// word[20] ^= 0x55;
-/// let figures = Setting::EN_300_421.decode(&mut word, &[0; 204])?;
+/// let figures = Setting::EN_300_421.decode(&mut word, &[0; 204], &mut map)?;
 /// assert_eq!((figures.errors, figures.bits, word[20]), (1, 4, 7));
+/// assert!((0..204).all(|place| map[place] == (place == 20) as u8)); // It was place 20 that was mended.
 /// # Ok::<(), yaxopetzo::Refusal>(())
 /// ```
 #[derive(Clone, Copy, Debug, PartialEq, Eq, Hash)]
@@ -49,18 +50,27 @@ impl Setting {
 
     /// Corrects the received word where it stands to the one codeword with 2e + f ≤ r.
     ///
-    /// `marks` has n marks, 1 where the receiver distrusts the symbol. Refused 1, 2, 3, or 4 where no codeword is near
-    /// enough; the word then stays as received.
-    pub fn decode(self, word: &mut [u8], marks: &[u8]) -> Result<Figures, Refusal> {
-        let decoded = ffi::word_decode(self.code(), word, marks);
+    /// `marks` has n marks, 1 where the receiver distrusts the symbol. `map` has n bytes too, and becomes 1 at each place
+    /// that was changed and 0 elsewhere, also where a marked symbol was right. Refused 1, 2, 3, or 4 where no codeword is
+    /// near enough; the word then stays as received. The map is zeros under 4, and stays as it was under 1, 2 and 3.
+    pub fn decode(self, word: &mut [u8], marks: &[u8], map: &mut [u8]) -> Result<Figures, Refusal> {
+        let decoded = ffi::word_decode(self.code(), word, marks, map);
         answered(decoded.answer, decoded.figures.into())
     }
 
-    /// The same with the received word only read: the corrected word's n − r message symbols go to `part`.
+    /// The same with the received word only read: the corrected word's n − r message symbols go to `part`. The map has all
+    /// n places, check symbols too.
     ///
-    /// Refused as [`decode`](Setting::decode) is, and 2 for the part's length; the part then stays as it was.
-    pub fn decode_part(self, received: &[u8], marks: &[u8], part: &mut [u8]) -> Result<Figures, Refusal> {
-        let decoded = ffi::word_decode_part(self.code(), received, marks, part);
+    /// Refused as [`decode`](Setting::decode) is, and 2 for the part's length; the part then stays as it was, and the map is
+    /// left as `decode` leaves it.
+    pub fn decode_part(
+        self,
+        received: &[u8],
+        marks: &[u8],
+        part: &mut [u8],
+        map: &mut [u8],
+    ) -> Result<Figures, Refusal> {
+        let decoded = ffi::word_decode_part(self.code(), received, marks, part, map);
         answered(decoded.answer, decoded.figures.into())
     }
 }

@@ -119,7 +119,15 @@ pub struct CrossReceived {
 extern "C" {
     pub fn yaxo_word_is_allowed(code: Code) -> bool;
     pub fn yaxo_word_encode(code: Code, message: *const u8, k: usize, word: *mut u8, n: usize) -> u8;
-    pub fn yaxo_word_decode(code: Code, word: *mut u8, n: usize, marks: *const u8, marks_n: usize) -> Decoded;
+    pub fn yaxo_word_decode(
+        code: Code,
+        word: *mut u8,
+        n: usize,
+        marks: *const u8,
+        marks_n: usize,
+        map: *mut u8,
+        map_n: usize,
+    ) -> Decoded;
     pub fn yaxo_word_decode_part(
         code: Code,
         received: *const u8,
@@ -128,6 +136,8 @@ extern "C" {
         marks_n: usize,
         part: *mut u8,
         k: usize,
+        map: *mut u8,
+        map_n: usize,
     ) -> Decoded;
     pub fn yaxo_block_spread(depth: usize, n: usize, words: *const u8, w: usize, slots: *mut u8, s: usize) -> u8;
     pub fn yaxo_block_gather(depth: usize, n: usize, slots: *const u8, s: usize, words: *mut u8, w: usize) -> u8;
@@ -182,6 +192,8 @@ extern "C" {
         marks_s: usize,
         area: *mut u8,
         a: usize,
+        map: *mut u8,
+        map_s: usize,
     );
     pub fn yaxo_hear_in(
         out: *mut Received,
@@ -193,6 +205,8 @@ extern "C" {
         marks_s: usize,
         area: *mut u8,
         a: usize,
+        map: *mut u8,
+        map_s: usize,
     );
     pub fn yaxo_record_fresh(out: *mut Record);
     pub fn yaxo_record_standing(accepted: u8, last: u16, sequence: u16) -> u8;
@@ -206,12 +220,16 @@ extern "C" {
         first_marks_s: usize,
         first_area: *mut u8,
         first_a: usize,
+        first_map: *mut u8,
+        first_map_s: usize,
         second_slots: *const u8,
         second_s: usize,
         second_marks: *const u8,
         second_marks_s: usize,
         second_area: *mut u8,
         second_a: usize,
+        second_map: *mut u8,
+        second_map_s: usize,
     );
     pub fn yaxo_masts_hear_in(
         out: *mut Chosen,
@@ -223,12 +241,16 @@ extern "C" {
         first_marks_s: usize,
         first_area: *mut u8,
         first_a: usize,
+        first_map: *mut u8,
+        first_map_s: usize,
         second_slots: *const u8,
         second_s: usize,
         second_marks: *const u8,
         second_marks_s: usize,
         second_area: *mut u8,
         second_a: usize,
+        second_map: *mut u8,
+        second_map_s: usize,
     );
     pub fn yaxo_cross_fresh_sender(memory: *mut u8, size: usize) -> Ready;
     pub fn yaxo_cross_fresh_receiver(memory: *mut u8, size: usize, held: *mut u8, h: usize) -> Ready;
@@ -251,5 +273,7 @@ extern "C" {
         n: usize,
         message: *mut u8,
         k: usize,
+        map: *mut u8,
+        map_n: usize,
     ) -> CrossReceived;
 }
