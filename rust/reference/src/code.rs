@@ -176,6 +176,11 @@ fn generator(field: &Field, r: usize, b: usize) -> Vec<u8> {
     product
 }
 
+/// Document 02, No. 6: 1 where what was corrected differs from what was received, else 0.
+pub fn changes(received: &[u8], corrected: &[u8]) -> Vec<u8> {
+    received.iter().zip(corrected).map(|(x, y)| (x != y) as u8).collect()
+}
+
 /// What the paper counts between a received and a corrected word.
 pub fn figures(received: &[u8], corrected: &[u8], marks: &[u8]) -> Figures {
     let mut out = Figures::default();

@@ -2,7 +2,7 @@
 
 use std::collections::VecDeque;
 
-use crate::code::{Code, Figures};
+use crate::code::{changes, Code, Figures};
 
 /// The frames after which a receiver has whole outer words.
 pub const HELD_BACK: usize = 108;
@@ -53,10 +53,12 @@ impl Receiver {
         Some(Receiver { outer, inner, queues, frames: 0 })
     }
 
-    /// Answers 7 for the first 108 frames and leaves the message; then 0 with the message, or 4 with zeros.
-    pub fn frame(&mut self, received: &[u8; 32], message: &mut [u8; 24]) -> Result<Figures, u8> {
+    /// Answers 7 for the first 108 frames and leaves the message; then 0 with the message, or 4 with zeros. The map is that
+    /// of the inner word under each of them; one that is refused stays as received.
+    pub fn frame(&mut self, received: &[u8; 32], message: &mut [u8; 24], map: &mut [u8; 32]) -> Result<Figures, u8> {
         let mut word = *received;
         let mark = self.inner.decode(&mut word, &[0; 32]).is_none() as u8;
+        map.copy_from_slice(&changes(received, &word));
         let mut bytes = [0; 28];
         let mut marks = [0; 28];
         for (i, queue) in self.queues.iter_mut().enumerate() {

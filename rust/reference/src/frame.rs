@@ -1,7 +1,7 @@
 //! A frame: a message area with its trailer, as J interleaved words.
 
 use crate::block;
-use crate::code::Figures;
+use crate::code::{changes, Figures};
 use crate::word::{self, Setting as Code};
 
 /// J, n, r and b.
@@ -76,12 +76,19 @@ pub fn send(setting: Setting, payload: &[u8], sequence: u16, slots: &mut [u8]) -
     Ok(())
 }
 
-/// Refused 1, 2, 3, 4 with the first refused word's number, 5. Under 4 and 5 the area is zeros.
-pub fn receive(setting: Setting, slots: &[u8], marks: &[u8], area: &mut [u8]) -> Result<Frame, (u8, usize)> {
+/// Refused 1, 2, 3, 4 with the first refused word's number, 5. Under 4 and 5 area and map are zeros.
+pub fn receive(
+    setting: Setting,
+    slots: &[u8],
+    marks: &[u8],
+    area: &mut [u8],
+    map: &mut [u8],
+) -> Result<Frame, (u8, usize)> {
     if !setting.is_allowed() {
         return Err((1, 0));
     }
-    if slots.len() != setting.slots() || marks.len() != setting.slots() || area.len() != setting.area() {
+    let lengths = [slots.len(), marks.len(), map.len()];
+    if lengths != [setting.slots(); 3] || area.len() != setting.area() {
         return Err((2, 0));
     }
     if marks.iter().any(|&mark| mark > 1) {
@@ -93,16 +100,20 @@ pub fn receive(setting: Setting, slots: &[u8], marks: &[u8], area: &mut [u8]) ->
     });
     if answer.is_err() {
         area.fill(0);
+        map.fill(0);
+        return answer;
     }
+    // The words' own maps are not asked: the corrected slots are those that the area would be sent as.
+    map.copy_from_slice(&changes(slots, &slots_of(setting, area)));
     answer
 }
 
 /// Decodes every word into its part of the area.
 fn words(setting: Setting, slots: &[u8], marks: &[u8], area: &mut [u8]) -> Result<Vec<Figures>, (u8, usize)> {
     let take = |from: &[u8], w: usize| -> Vec<u8> { from.iter().skip(w).step_by(setting.depth).copied().collect() };
-    let mut figures = Vec::new();
+    let (mut figures, mut unread) = (Vec::new(), vec![0; setting.n]);
     for (w, part) in area.chunks_mut(setting.n - setting.r).enumerate() {
-        let answer = word::decode_part(setting.code(), &take(slots, w), &take(marks, w), part);
+        let answer = word::decode_part(setting.code(), &take(slots, w), &take(marks, w), part, &mut unread);
         figures.push(answer.map_err(|number| (number, w))?);
     }
     Ok(figures)

@@ -3,12 +3,13 @@
 use crate::frame::{self, Frame, Setting};
 use crate::record::Record;
 
-/// What one mast heard, and the area that its copy is decoded into.
+/// What one mast heard, the area that its copy is decoded into, and the copy's own map.
 #[derive(Clone, Debug, PartialEq, Eq)]
 pub struct Reception {
     pub slots: Vec<u8>,
     pub marks: Vec<u8>,
     pub area: Vec<u8>,
+    pub map: Vec<u8>,
 }
 
 /// The copy that is used.
@@ -26,7 +27,7 @@ pub type Answer = Result<Chosen, (u8, usize)>;
 pub fn receive(setting: Setting, masts: &mut [Reception; 2]) -> Answer {
     let (mut candidates, mut refusals) = (Vec::new(), Vec::new());
     for (number, heard) in masts.iter_mut().enumerate() {
-        match frame::receive(setting, &heard.slots, &heard.marks, &mut heard.area) {
+        match frame::receive(setting, &heard.slots, &heard.marks, &mut heard.area, &mut heard.map) {
             Ok(frame) => candidates.push(Chosen { mast: number + 1, frame }),
             Err(refusal) => refusals.push(refusal),
         }
