@@ -16,13 +16,22 @@ pub trait Codec {
 pub fn codecs(s: Setting) -> Option<Vec<Box<dyn Codec>>> {
     let plain = Plain(Code::new(s.m, s.n, s.r, s.b)?);
     #[cfg(feature = "libfec")]
-    return Some(vec![Box::new(Proved(s)), Box::new(plain), Box::new(crate::libfec::Fec::new(s)?)]);
+    return Some(vec![Box::new(Proved::new(s)), Box::new(plain), Box::new(crate::libfec::Fec::new(s)?)]);
     #[cfg(not(feature = "libfec"))]
-    return Some(vec![Box::new(Proved(s)), Box::new(plain)]);
+    return Some(vec![Box::new(Proved::new(s)), Box::new(plain)]);
 }
 
-/// The library through its Rust face, with all its checks.
-struct Proved(Setting);
+/// The library through its Rust face, with all its checks. It also maps what it changed, which the others do not.
+struct Proved {
+    setting: Setting,
+    map: Vec<u8>,
+}
+
+impl Proved {
+    fn new(setting: Setting) -> Proved {
+        Proved { setting, map: vec![0; setting.n] }
+    }
+}
 
 impl Codec for Proved {
     fn name(&self) -> &'static str {
@@ -30,11 +39,11 @@ impl Codec for Proved {
     }
 
     fn encode(&mut self, message: &[u8], word: &mut [u8]) {
-        let _ = self.0.encode(message, word);
+        let _ = self.setting.encode(message, word);
     }
 
     fn decode(&mut self, word: &mut [u8], marks: &[u8], _: &[usize]) -> bool {
-        self.0.decode(word, marks).is_ok()
+        self.setting.decode(word, marks, &mut self.map).is_ok()
     }
 }
 

@@ -2,7 +2,7 @@
 
 use std::collections::VecDeque;
 
-use yaxopetzo::cross::{Receiver, Sender, MEMORY};
+use yaxopetzo::cross::{Receiver, Sender, MEMORY, WORD};
 use yaxopetzo::word::Setting;
 
 use crate::codecs::{codecs, Codec};
@@ -26,13 +26,15 @@ pub fn crossers() -> Option<Vec<Box<dyn Crosser>>> {
     Some(crossers)
 }
 
-/// The library through its Rust face, with all its checks; its ends are put away between calls.
+/// The library through its Rust face, with all its checks; its ends are put away between calls. It also maps what it changed,
+/// which the others do not.
 struct Proved {
     sending: usize,
     sent: [u8; MEMORY],
     receiving: usize,
     heard: [u8; MEMORY],
     held: [u8; MEMORY],
+    map: [u8; WORD],
 }
 
 impl Proved {
@@ -40,7 +42,7 @@ impl Proved {
         let (mut sent, mut heard, mut held) = ([0; MEMORY], [0; MEMORY], [0; MEMORY]);
         let sending = Sender::fresh(&mut sent).ok()?.position();
         let receiving = Receiver::fresh(&mut heard, &mut held).ok()?.position();
-        Some(Proved { sending, sent, receiving, heard, held })
+        Some(Proved { sending, sent, receiving, heard, held, map: [0; WORD] })
     }
 }
 
@@ -57,7 +59,7 @@ impl Crosser for Proved {
 
     fn receive(&mut self, word: &[u8; 32], message: &mut [u8; 24]) -> bool {
         let mut receiver = Receiver::resume(self.receiving, &mut self.heard, &mut self.held);
-        let answer = receiver.receive(word, message);
+        let answer = receiver.receive(word, message, &mut self.map);
         self.receiving = receiver.position();
         answer.is_ok()
     }

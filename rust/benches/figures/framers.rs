@@ -18,15 +18,18 @@ pub trait Framer {
 /// with tables that are ready. So the reference's frames say what is to come out, and its codec is measured in the same
 /// loop as libfec.
 pub fn framers(s: Setting) -> Option<Vec<Box<dyn Framer>>> {
-    let mut framers: Vec<Box<dyn Framer>> = vec![Box::new(Proved(s))];
+    let mut framers: Vec<Box<dyn Framer>> = vec![Box::new(Proved { setting: s, map: vec![0; s.slots()] })];
     for codec in codecs(yaxopetzo::word::Setting { m: 8, n: s.n, r: s.r, b: s.b })?.into_iter().skip(1) {
         framers.push(Box::new(Composed { setting: s, codec, area: vec![0; s.area()], marked: Vec::new() }));
     }
     Some(framers)
 }
 
-/// The library through its Rust face, with all its checks.
-struct Proved(Setting);
+/// The library through its Rust face, with all its checks. It also maps what it changed, which the others do not.
+struct Proved {
+    setting: Setting,
+    map: Vec<u8>,
+}
 
 impl Framer for Proved {
     fn name(&self) -> &'static str {
@@ -34,11 +37,11 @@ impl Framer for Proved {
     }
 
     fn send(&mut self, payload: &[u8], sequence: u16, slots: &mut [u8]) {
-        let _ = self.0.send(payload, sequence, slots);
+        let _ = self.setting.send(payload, sequence, slots);
     }
 
     fn receive(&mut self, slots: &[u8], marks: &[u8], area: &mut [u8]) -> bool {
-        self.0.receive(slots, marks, area).is_ok()
+        self.setting.receive(slots, marks, area, &mut self.map).is_ok()
     }
 }
 

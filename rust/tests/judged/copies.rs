@@ -1,5 +1,6 @@
 //! Two copies of a frame: how they are made, and the comparison of all that both sides leave.
 
+use reference::code::changes;
 use reference::frame as frames;
 use reference::masts::{self as plain, Answer, Reception};
 use reference::noise::Noise;
@@ -7,10 +8,11 @@ use yaxopetzo::frame::{Refused, Setting};
 use yaxopetzo::masts::{Chosen, Heard, Mast};
 use yaxopetzo::record::Record;
 
+use crate::map::old;
 use crate::{frame, record};
 
 fn lent(heard: &mut Reception) -> Heard<'_> {
-    Heard { slots: &heard.slots, marks: &heard.marks, area: &mut heard.area }
+    Heard { slots: &heard.slots, marks: &heard.marks, area: &mut heard.area, map: &mut heard.map }
 }
 
 /// The reference's form of what the face answers. The payload must be a part of the used mast's area.
@@ -34,8 +36,8 @@ fn heard(s: Setting, record: Option<&mut Record>, masts: &mut [Reception; 2]) ->
     }
 }
 
-/// Receives on both sides, alone and with the record; gives the answer and the two areas that are left.
-pub fn compared(s: Setting, record: &mut Record, masts: &[Reception; 2]) -> (Answer, [Vec<u8>; 2]) {
+/// Receives on both sides, alone and with the record; gives the answer, and both copies with what is left in their buffers.
+pub fn compared(s: Setting, record: &mut Record, masts: &[Reception; 2]) -> (Answer, [Reception; 2]) {
     let (mut ours, mut alone, mut theirs) = (masts.clone(), masts.clone(), masts.clone());
     let mut judge = record::plain(*record);
     let answer = heard(s, Some(record), &mut ours);
@@ -44,14 +46,13 @@ pub fn compared(s: Setting, record: &mut Record, masts: &[Reception; 2]) -> (Ans
     assert_eq!(record::plain(*record), judge, "{s:?}");
     assert_eq!(heard(s, None, &mut alone), answer, "{s:?}");
     assert_eq!(alone, ours, "{s:?}");
-    // Each area is as the copy's own call leaves it.
+    // Each area and each map is as the copy's own call leaves it.
     for (mast, left) in masts.iter().zip(&ours) {
-        let mut area = mast.area.clone();
-        let _ = s.receive(&mast.slots, &mast.marks, &mut area);
-        assert_eq!(area, left.area, "{s:?}");
+        let mut own = mast.clone();
+        let _ = s.receive(&mast.slots, &mast.marks, &mut own.area, &mut own.map);
+        assert_eq!(own, *left, "{s:?}");
     }
-    let [first, second] = ours;
-    (answer, [first.area, second.area])
+    (answer, ours)
 }
 
 /// The area of a frame with this number and some payload.
@@ -82,14 +83,21 @@ pub fn copy(noise: &mut Noise, s: Setting, area: &[u8], amounts: &[usize]) -> Re
         let e = noise.below(amount / 2 + 1);
         frame::strike(noise, s, w, (e, amount - 2 * e), &mut slots, &mut marks);
     }
-    Reception { slots, marks, area: noise.bytes(area.len()) }
+    let map = old(slots.len());
+    Reception { slots, marks, area: noise.bytes(area.len()), map }
 }
 
-/// A copy whose own answer is known, with the word that is named then and the area that its own call leaves.
+/// A copy of the frame with this area as its own call leaves it where it is accepted.
+pub fn mended(s: Setting, copy: &Reception, area: &[u8]) -> Reception {
+    let map = changes(&copy.slots, &frames::slots_of(frame::plain(s), area));
+    Reception { area: area.to_vec(), map, ..copy.clone() }
+}
+
+/// A copy whose own answer is known, with the word that is named then and what its own call leaves.
 pub struct Known {
     pub copy: Reception,
     pub word: usize,
-    pub left: Vec<u8>,
+    pub left: Reception,
 }
 
 /// A damaged copy of the frame with this area that is accepted, or refused 2 to 5.
@@ -114,19 +122,20 @@ pub fn known(noise: &mut Noise, s: Setting, number: u8, area: &[u8]) -> Known {
         _ => {}
     }
     let left = match number {
-        0 => area.to_vec(),
-        2 | 3 => copy.area.clone(),
-        _ => vec![0; area.len()],
+        0 => mended(s, &copy, area),
+        2 | 3 => copy.clone(),
+        _ => Reception { area: vec![0; area.len()], map: vec![0; s.slots()], ..copy.clone() },
     };
     Known { copy, word, left }
 }
 
 /// Gives one of a copy's buffers another length: one less, one more, or none.
 fn resize(noise: &mut Noise, copy: &mut Reception) {
-    let buffer = match noise.below(3) {
+    let buffer = match noise.below(4) {
         0 => &mut copy.slots,
         1 => &mut copy.marks,
-        _ => &mut copy.area,
+        2 => &mut copy.area,
+        _ => &mut copy.map,
     };
     match noise.below(3) {
         0 => buffer.truncate(buffer.len() - 1),

@@ -6,6 +6,7 @@ use yaxopetzo::frame::{Frame, Refused, Setting};
 use yaxopetzo::record::Record;
 use yaxopetzo::Refusal;
 
+use crate::map::{frame_laws, old};
 use crate::record;
 use crate::same::counted;
 
@@ -15,7 +16,7 @@ pub fn plain(s: Setting) -> plain::Setting {
 }
 
 /// What an accepted frame holds, or number and word of a refusal.
-type Answer = Result<plain::Frame, (u8, usize)>;
+pub type Answer = Result<plain::Frame, (u8, usize)>;
 
 /// The reference's form of a refusal.
 pub fn numbered(refused: Refused) -> (u8, usize) {
@@ -35,31 +36,38 @@ pub fn accepted(frame: Frame, end: usize) -> plain::Frame {
 }
 
 /// The reference's form of what the face answers. The payload's place in the area is compared too.
-fn heard(s: Setting, record: &mut Record, slots: &[u8], marks: &[u8], area: &mut [u8]) -> Answer {
+fn heard(s: Setting, record: &mut Record, slots: &[u8], marks: &[u8], area: &mut [u8], map: &mut [u8]) -> Answer {
     let end = end(area);
-    s.hear(record, slots, marks, area).map(|frame| accepted(frame, end)).map_err(numbered)
+    s.hear(record, slots, marks, area, map).map(|frame| accepted(frame, end)).map_err(numbered)
 }
 
 /// Receives on both sides, alone and with the record.
 fn received(s: Setting, slots: &[u8], marks: &[u8], before: &[u8]) -> Answer {
+    received_into(s, slots, marks, before, &old(slots.len())).0
+}
+
+/// The same with a map that holds this; gives the map that is left too.
+pub fn received_into(s: Setting, slots: &[u8], marks: &[u8], before: &[u8], map: &[u8]) -> (Answer, Vec<u8>) {
     let (mut ours, mut theirs) = (before.to_vec(), before.to_vec());
+    let (mut our_map, mut their_map) = (map.to_vec(), map.to_vec());
     let mut record = Record { accepted: true, last: 7, ..Record::fresh() };
     let mut judge: plain_record::Record = record::plain(record);
-    let answer = heard(s, &mut record, slots, marks, &mut ours);
-    let expected = plain::receive(plain(s), slots, marks, &mut theirs);
+    let answer = heard(s, &mut record, slots, marks, &mut ours, &mut our_map);
+    let expected = plain::receive(plain(s), slots, marks, &mut theirs, &mut their_map);
     assert_eq!(answer, expected, "{s:?}");
-    assert_eq!(ours, theirs, "{s:?}");
+    assert_eq!((&ours, &our_map), (&theirs, &their_map), "{s:?}");
+    frame_laws(s, &answer, slots, marks, map, &our_map);
     match &answer {
         Ok(frame) => judge.note(0, frame.sequence),
         Err((number, _)) => judge.note(*number, 0),
     }
     assert_eq!(record::plain(record), judge, "{s:?}");
-    let mut alone = before.to_vec();
-    let number =
-        s.receive(slots, marks, &mut alone).map(|frame| frame.sequence).map_err(|refused| refused.why.number());
+    let (mut alone, mut alone_map) = (before.to_vec(), map.to_vec());
+    let number = s.receive(slots, marks, &mut alone, &mut alone_map);
+    let number = number.map(|frame| frame.sequence).map_err(|refused| refused.why.number());
     assert_eq!(number, answer.as_ref().map(|frame| frame.sequence).map_err(|refused| refused.0));
-    assert_eq!(alone, ours, "{s:?}");
-    answer
+    assert_eq!((&alone, &alone_map), (&ours, &our_map), "{s:?}");
+    (answer, our_map)
 }
 
 /// Sends on both sides.
@@ -139,10 +147,11 @@ fn heard_in_turn() {
         let beyond = (noise.below(5) == 0).then_some(1);
         damage(&mut noise, s, &mut slots, &mut marks, beyond);
         let (mut ours, mut theirs) = ([0; 10], [0; 10]);
-        let answer = heard(s, &mut record, &slots, &marks, &mut ours);
-        assert_eq!(answer, plain::receive(plain(s), &slots, &marks, &mut theirs));
+        let (mut our_map, mut their_map) = (old(18), old(18));
+        let answer = heard(s, &mut record, &slots, &marks, &mut ours, &mut our_map);
+        assert_eq!(answer, plain::receive(plain(s), &slots, &marks, &mut theirs, &mut their_map));
         judge.note(answer.as_ref().err().map_or(0, |refused| refused.0), answer.map_or(0, |frame| frame.sequence));
-        assert_eq!((record::plain(record), ours), (judge, theirs));
+        assert_eq!((record::plain(record), ours, our_map), (judge, theirs, their_map));
     }
     let least = judge.newer.min(judge.repeat).min(judge.older).min(judge.refused);
     assert!(least > 500, "{judge:?}: the test does not try what it says");
@@ -198,9 +207,10 @@ fn refused() {
 }
 
 fn lengths(s: Setting, slots: usize, area: usize) {
-    for (x, y, z) in [(0, 0, 0), (1, 0, 0), (0, 1, 0), (0, 0, 1)] {
+    for (x, y, z, map) in [(0, 0, 0, 0), (1, 0, 0, 0), (0, 1, 0, 0), (0, 0, 1, 0), (0, 0, 0, 1)] {
         for mark in [0, 1, 2] {
-            let _ = received(s, &vec![0; slots + x], &vec![mark; slots + y], &vec![5; area + z]);
+            let (slots, marks, map) = (vec![0; slots + x], vec![mark; slots + y], old(slots + map));
+            let _ = received_into(s, &slots, &marks, &vec![5; area + z], &map);
         }
     }
     let room = area.saturating_sub(4);
@@ -210,10 +220,13 @@ fn lengths(s: Setting, slots: usize, area: usize) {
     if slots > 0 {
         let _ = sent(s, &[], 0, &vec![5; slots - 1]);
         let _ = received(s, &vec![0; slots - 1], &vec![0; slots - 1], &vec![5; area]);
+        for map in [0, area, slots - 1, 2 * slots] {
+            let _ = received_into(s, &vec![0; slots], &vec![2; slots], &vec![5; area], &old(map));
+        }
     }
 }
 
-/// One bad mark anywhere in a frame leaves area and record alone.
+/// One bad mark anywhere in a frame leaves area, map and record alone.
 #[test]
 fn bad_marks() {
     let mut noise = Noise::new(52);
@@ -227,12 +240,13 @@ fn bad_marks() {
     }
 }
 
-/// The paper's example for the bench reader.
+/// The paper's example for the bench reader: slots 2 and 3 were sent as others.
 #[test]
 fn example() {
     let s = Setting { depth: 2, n: 5, r: 2, b: 0 };
-    let mut area = [9; 6];
-    let frame = s.receive(&[0, 0, 0, 0, 1, 1, 217, 13, 153, 14], &[0; 10], &mut area);
+    let (mut area, mut map) = ([9; 6], [9; 10]);
+    let frame = s.receive(&[0, 0, 0, 0, 1, 1, 217, 13, 153, 14], &[0; 10], &mut area, &mut map);
     let told = frame.map(|f| (f.sequence, f.payload, f.words().iter().map(|w| (w.errors, w.bits)).collect()));
     assert_eq!(told, Ok((258, &[65][..], vec![(1, 2), (1, 1)])));
+    assert_eq!(map, [0, 0, 1, 1, 0, 0, 0, 0, 0, 0]);
 }

@@ -126,7 +126,7 @@ fn words_under_a_run_of_damage() {
         let mut out = received(&mut noise, s, &slots, &marks).split_off(delay);
         for (message, word) in messages.iter().zip(out.chunks_mut(204)) {
             let (mut word, marks): (Vec<u8>, Vec<u8>) = word.iter().copied().unzip();
-            let answer = code.decode(&mut word, &marks);
+            let answer = code.decode(&mut word, &marks, &mut [0; 204]);
             assert!(matches!(answer, Ok(f) if f.errors <= 8 && f.marked == 0), "round {round}");
             assert_eq!(word[..188], message[..]);
         }

@@ -8,6 +8,7 @@ mod copies;
 mod cross;
 mod frame;
 mod line;
+mod map;
 mod masts;
 mod outside;
 mod record;

@@ -2,14 +2,16 @@
 //!
 //! What a pair is made for is known beforehand: the answer is held against that too, and not against the reference alone.
 
+use reference::code::changes;
 use reference::masts::Reception;
 use reference::noise::Noise;
 use yaxopetzo::frame::Setting;
 use yaxopetzo::masts::{Heard, Mast};
 use yaxopetzo::record::Record;
 
-use crate::copies::{amounts, area, compared, copy, gives, known};
+use crate::copies::{amounts, area, compared, copy, gives, known, mended};
 use crate::frame;
+use crate::map::old;
 
 /// What the two copies suffer in turn: nothing, one of them, the same sum over other words, one more, whatever comes.
 fn suffered(noise: &mut Noise, s: Setting, round: usize) -> [Vec<usize>; 2] {
@@ -51,14 +53,15 @@ fn the_better_copy() {
         pairs[(first != second) as usize][(sums[0].cmp(&sums[1]) as i8 + 1) as usize] += 1;
         clean += (sums == [0, 0]) as usize;
         ties += (sums[0] == sums[1] && first == second && masts[0].slots != masts[1].slots) as usize;
-        assert_eq!(left, [first, second], "{s:?}");
+        assert_eq!(left, [mended(s, &masts[0], &first), mended(s, &masts[1], &second)], "{s:?}");
     }
     let least = pairs.iter().flatten().min();
     assert!(least > Some(&300) && clean > 300 && ties > 200, "{pairs:?} {clean} {ties}: the test does not try all");
     println!("3500 pairs {pairs:?}, {ties} of them with equal sums of other damage");
 }
 
-/// Both accepted with different numbers: refused 8, both areas are there, and the record does not move.
+/// Both accepted with different numbers: refused 8, both areas and both maps are there, and the record does not move. A call
+/// that takes back what it decoded would be noticed here.
 #[test]
 fn two_frames() {
     let mut noise = Noise::new(81);
@@ -77,7 +80,8 @@ fn two_frames() {
         let masts = [copy(&mut noise, s, &first, &one), copy(&mut noise, s, &second, &other)];
         let before = Record { accepted: round % 3 > 0, last: sequence, ..Record::fresh() };
         let mut record = before;
-        assert_eq!(compared(s, &mut record, &masts), (Err((8, 0)), [first, second]), "{s:?}");
+        let left = [mended(s, &masts[0], &first), mended(s, &masts[1], &second)];
+        assert_eq!(compared(s, &mut record, &masts), (Err((8, 0)), left), "{s:?}");
         assert_eq!(record, before, "{s:?}");
     }
     println!("1000 pairs");
@@ -98,7 +102,7 @@ fn refused_copies() {
             let one = known(&mut noise, s, first, &area);
             let other = known(&mut noise, s, second, &area);
             let mut record = Record { accepted: true, last: sequence, ..Record::fresh() };
-            let (answer, areas) = compared(s, &mut record, &[one.copy, other.copy]);
+            let (answer, left) = compared(s, &mut record, &[one.copy, other.copy]);
             let (right, counts) = match (first, second) {
                 (0, _) => (gives(s, &answer, 1, &area), (1, 0)),
                 (_, 0) => (gives(s, &answer, 2, &area), (1, 0)),
@@ -106,7 +110,7 @@ fn refused_copies() {
             };
             assert!(right, "{s:?}: {first} and {second} gave {answer:?}");
             assert_eq!((record.repeat, record.refused), counts, "{s:?}: {first} and {second}");
-            assert_eq!(areas, [one.left, other.left], "{s:?}: {first} and {second}");
+            assert_eq!(left, [one.left, other.left], "{s:?}: {first} and {second}");
         }
     }
     println!("24 pairs of numbers, 50 times each");
@@ -116,18 +120,25 @@ fn refused_copies() {
 #[test]
 fn around_the_limits() {
     let settings = frame::around_the_limits();
-    // Slots too many, and the mark of every slot.
-    let (good, long, bad, both) = ((0, 0), (1, 0), (0, 2), (1, 2));
+    // Slots too many, the mark of every slot, and bytes of the map too many.
+    let (good, long, bad, both, map) = ((0, 0, 0), (1, 0, 0), (0, 2, 0), (1, 2, 0), (0, 2, 1));
     for &s in &settings {
         let (slots, area) = (s.depth.min(20) * s.n, s.depth.min(20) * s.n.saturating_sub(s.r));
-        let zeros =
-            |(more, mark)| Reception { slots: vec![0; slots + more], marks: vec![mark; slots], area: vec![5; area] };
-        for (first, second) in [(good, good), (long, bad), (bad, long), (good, both), (bad, good)] {
+        let zeros = |(more, mark, map)| Reception {
+            slots: vec![0; slots + more],
+            marks: vec![mark; slots],
+            area: vec![5; area],
+            map: old(slots + map),
+        };
+        for (first, second) in
+            [(good, good), (long, bad), (bad, long), (good, both), (bad, good), (map, good), (bad, map)]
+        {
             let before = Record { accepted: true, last: 7, ..Record::fresh() };
             let mut record = before;
-            let (answer, areas) = compared(s, &mut record, &[zeros(first), zeros(second)]);
+            let masts = [zeros(first), zeros(second)];
+            let (answer, left) = compared(s, &mut record, &masts);
             if !s.is_allowed() {
-                assert_eq!((answer, areas), (Err((1, 0)), [vec![5; area], vec![5; area]]), "{s:?}");
+                assert_eq!((answer, left), (Err((1, 0)), masts), "{s:?}");
                 assert_eq!(record, before, "{s:?}");
             }
         }
@@ -195,11 +206,15 @@ fn one_buffer() {
     let marks = [1, 0, 1, 0, 0, 0, 0, 0, 0, 0];
     let used = |first: (&[u8], &[u8]), second: (&[u8], &[u8])| {
         let (mut area, mut other) = ([9; 6], [9; 6]);
-        let first = Heard { slots: first.0, marks: first.1, area: &mut area };
-        let second = Heard { slots: second.0, marks: second.1, area: &mut other };
+        let (mut map, mut other_map) = ([9; 10], [9; 10]);
+        let changed = [changes(first.0, &slots), changes(second.0, &slots)];
+        let first = Heard { slots: first.0, marks: first.1, area: &mut area, map: &mut map };
+        let second = Heard { slots: second.0, marks: second.1, area: &mut other, map: &mut other_map };
         let chosen = s.receive_masts(first, second).expect("both are good");
         assert_eq!((chosen.frame.sequence, chosen.frame.payload), (258, &[65][..]));
-        chosen.mast
+        let mast = chosen.mast;
+        assert_eq!([map.to_vec(), other_map.to_vec()], changed);
+        mast
     };
     assert_eq!(used((&slots, &[0; 10]), (&slots, &[0; 10])), Mast::First);
     assert_eq!(used((&slots, &marks), (&slots, &[0; 10])), Mast::Second);

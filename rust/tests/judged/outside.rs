@@ -4,6 +4,8 @@
 use yaxopetzo::word::Setting;
 use yaxopetzo::{block, line, Figures, Refusal};
 
+use crate::map::OLD;
+
 fn encoded<const K: usize, const N: usize>(r: usize, b: usize, m: usize, message: [u8; K]) -> [u8; N] {
     let mut word = [0; N];
     let s = Setting { m, n: N, r, b };
@@ -52,27 +54,27 @@ fn sklar() {
     let word: [u8; 7] = encoded(4, 1, 3, [7, 3, 2]);
     assert_eq!(word, [7, 3, 2, 5, 6, 4, 1]);
     let s = Setting { m: 3, n: 7, r: 4, b: 1 };
-    let mut received = [7, 3, 5, 1, 6, 4, 1];
-    assert_eq!(s.decode(&mut received, &[0; 7]), Ok(Figures { errors: 2, marked: 0, bits: 4 }));
-    assert_eq!(received, word);
+    let (mut received, mut map) = ([7, 3, 5, 1, 6, 4, 1], [OLD; 7]);
+    assert_eq!(s.decode(&mut received, &[0; 7], &mut map), Ok(Figures { errors: 2, marked: 0, bits: 4 }));
+    assert_eq!((received, map), (word, [0, 0, 1, 1, 0, 0, 0]));
 }
 
-/// Code S of the worked table: P5 to P10.
+/// Code S of the worked table: P5 to P10, and the places in which the table's words differ.
 #[test]
 fn worked_words() {
     let s = Setting { m: 8, n: 3, r: 2, b: 0 };
     let figures = |errors, marked, bits| Ok(Figures { errors, marked, bits });
     let cases = [
-        ([0, 3, 2], [0, 0, 0], figures(1, 0, 1), [1, 3, 2]),
-        ([0, 0, 2], [0, 0, 0], figures(1, 0, 1), [0, 0, 0]),
-        ([0, 0, 2], [1, 1, 0], figures(0, 2, 3), [1, 3, 2]),
-        ([0, 1, 2], [0, 0, 0], Err(Refusal::BeyondReach), [0, 1, 2]),
-        ([1, 3, 2], [1, 1, 1], Err(Refusal::BeyondReach), [1, 3, 2]),
+        ([0, 3, 2], [0, 0, 0], figures(1, 0, 1), [1, 3, 2], [1, 0, 0]),
+        ([0, 0, 2], [0, 0, 0], figures(1, 0, 1), [0, 0, 0], [0, 0, 1]),
+        ([0, 0, 2], [1, 1, 0], figures(0, 2, 3), [1, 3, 2], [1, 1, 0]),
+        ([0, 1, 2], [0, 0, 0], Err(Refusal::BeyondReach), [0, 1, 2], [0, 0, 0]),
+        ([1, 3, 2], [1, 1, 1], Err(Refusal::BeyondReach), [1, 3, 2], [0, 0, 0]),
     ];
-    for (received, marks, answer, left) in cases {
-        let mut word = received;
-        assert_eq!(s.decode(&mut word, &marks), answer);
-        assert_eq!(word, left);
+    for (received, marks, answer, left, changed) in cases {
+        let (mut word, mut map) = (received, [OLD; 3]);
+        assert_eq!(s.decode(&mut word, &marks, &mut map), answer);
+        assert_eq!((word, map), (left, changed));
     }
     assert_eq!(encoded::<1, 3>(2, 0, 8, [1]), [1, 3, 2]);
 }

@@ -3,7 +3,8 @@
 use reference::noise::Noise;
 use yaxopetzo::word::Setting;
 
-use crate::same::{decoded, decoded_part, encoded, plain};
+use crate::map::old;
+use crate::same::{decoded, decoded_into, decoded_part, decoded_part_into, encoded, plain};
 
 const MS: [usize; 10] = [0, 1, 2, 3, 4, 7, 8, 9, 259, usize::MAX];
 const NS: [usize; 17] = [0, 1, 2, 3, 4, 6, 7, 8, 9, 16, 17, 18, 254, 255, 256, 260, usize::MAX];
@@ -23,9 +24,12 @@ fn every_limit() {
             let _ = decoded(s, &vec![0; size], &vec![0; size]);
             let _ = decoded(s, &vec![255; size], &vec![2; size + 1]);
             let _ = decoded_part(s, &vec![0; size], &vec![0; size], &vec![7; k]);
+            // So does a map that is too long.
+            let _ = decoded_into(s, &vec![0; size], &vec![2; size], &old(size + 1));
+            let _ = decoded_part_into(s, &vec![0; size], &vec![2; size], &vec![7; k], &old(size + 1));
             let _ = encoded(s, &vec![1; k], &vec![7; size]);
             let _ = encoded(s, &vec![255; k], &vec![7; size + 1]);
-            count += 5;
+            count += 7;
         }
     }
     println!("{count} calls");
@@ -45,11 +49,14 @@ fn every_length() {
         let k = s.n - s.r;
         for (x, y) in around(s.n).iter().flat_map(|&x| around(s.n).map(|y| (x, y))) {
             for (symbol, mark) in [(0, 0), (255, 0), (0, 2), (255, 2)] {
-                let _ = decoded(s, &vec![symbol; x], &vec![mark; y]);
-                around(k).iter().for_each(|&z| {
-                    let _ = decoded_part(s, &vec![symbol; x], &vec![mark; y], &vec![9; z]);
+                let (word, marks) = (vec![symbol; x], vec![mark; y]);
+                around(s.n).iter().for_each(|&map| {
+                    let _ = decoded_into(s, &word, &marks, &old(map));
                 });
-                count += 6;
+                around(k).iter().flat_map(|&z| around(s.n).map(|map| (z, map))).for_each(|(z, map)| {
+                    let _ = decoded_part_into(s, &word, &marks, &vec![9; z], &old(map));
+                });
+                count += 30;
             }
         }
         for (x, y) in around(k).iter().flat_map(|&x| around(s.n).map(|y| (x, y))) {

@@ -1,23 +1,22 @@
 //! The field of eight elements against a search through all codewords: no algebra at all on the judge's side.
 
-use reference::code::figures;
+use reference::code::{changes, figures};
 use reference::noise::Noise;
 use reference::search::{next, Codewords, Neighbourhoods};
 use yaxopetzo::word::Setting;
 
+use crate::map::{old, OLD};
 use crate::same::numbered;
 
 /// One received word; the search tells the codeword, or that none qualifies.
 fn judged(s: Setting, all: &Codewords, received: &[u8], marks: &[u8]) {
-    let mut word = received.to_vec();
-    let answer = numbered(s.decode(&mut word, marks));
-    match all.nearest(received, marks) {
-        Some((right, figures)) => {
-            assert_eq!(answer, Ok(figures), "{s:?} {received:?} {marks:?}");
-            assert_eq!(word, right, "{s:?} {received:?} {marks:?}");
-        }
-        None => assert_eq!((answer, word.as_slice()), (Err(4), received), "{s:?} {marks:?}"),
-    }
+    let (mut word, mut map) = (received.to_vec(), old(s.n));
+    let answer = numbered(s.decode(&mut word, marks, &mut map));
+    let near = all.nearest(received, marks);
+    // A word that is refused stays, and nothing in it is changed.
+    let right = near.map_or(received, |(right, _)| right);
+    assert_eq!(answer, near.map(|(_, figures)| figures).ok_or(4), "{s:?} {received:?} {marks:?}");
+    assert_eq!((word.as_slice(), map), (right, changes(received, right)), "{s:?} {received:?} {marks:?}");
 }
 
 /// The marks of a number's bits.
@@ -57,12 +56,12 @@ fn every_word_of_sklars_code() {
     let near = Neighbourhoods::new(7, Codewords::new(7, 4, 1), 2);
     let mut received = [0; 7];
     loop {
-        let mut word = received;
-        let answer = numbered(s.decode(&mut word, &[0; 7]));
-        let right = near.of(&received);
-        let figures = right.map(|right| figures(&received, right, &[0; 7]));
+        let (mut word, mut map) = (received, [OLD; 7]);
+        let answer = numbered(s.decode(&mut word, &[0; 7], &mut map));
+        let figures = near.of(&received).map(|right| figures(&received, right, &[0; 7]));
+        let right = near.of(&received).unwrap_or(&received);
         assert_eq!(answer, figures.ok_or(4), "{received:?}");
-        assert_eq!(word, right.unwrap_or(&received), "{received:?}");
+        assert_eq!((&word[..], &map[..]), (right, &changes(&received, right)[..]), "{received:?}");
         if !next(&mut received) {
             break;
         }
