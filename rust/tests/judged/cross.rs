@@ -5,7 +5,7 @@ use reference::noise::Noise;
 use yaxopetzo::cross::{Receiver, Sender};
 use yaxopetzo::Refusal;
 
-use crate::map::{old, ones, OLD};
+use crate::map::{old, ones, used};
 use crate::same::numbered;
 
 const MEMORY: usize = 1512;
@@ -40,7 +40,7 @@ fn streamed(seed: u64, frames: usize, damage: Damage) -> Told {
         let wrong = damage(&mut noise, frame);
         let places = noise.places(32, wrong);
         noise.strike(&mut word, &places, 256);
-        let mut ours = ([noise.byte(); 24], [OLD; 32]);
+        let mut ours = ([noise.byte(); 24], [used(frame); 32]);
         let mut theirs = ours;
         let answer = numbered(receiver.receive(&word, &mut ours.0, &mut ours.1));
         assert_eq!(answer, receives.frame(&word, &mut theirs.0, &mut theirs.1), "frame {frame}");

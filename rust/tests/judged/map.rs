@@ -19,6 +19,11 @@ pub fn old(size: usize) -> Vec<u8> {
     vec![OLD; size]
 }
 
+/// What a map holds before a call in turn: the same, or the ones that an earlier call has left, which must not stay.
+pub fn used(round: usize) -> u8 {
+    [OLD, 1][round % 2]
+}
+
 /// A map with 1 at these places.
 pub fn ones(size: usize, places: &[usize]) -> Vec<u8> {
     let mut map = vec![0; size];
@@ -78,9 +83,11 @@ fn sent(noise: &mut Noise, s: Setting) -> Vec<u8> {
 /// Decodes by both calls, which must both map these places.
 fn mapped(s: Setting, word: &[u8], marks: &[u8], places: &[usize]) {
     let map = ones(s.n, places);
-    assert_eq!(decoded_into(s, word, marks, &old(s.n)).2, map, "{s:?} {word:?} {marks:?}");
-    let (_, of_part) = decoded_part_into(s, word, marks, &vec![9; s.n - s.r], &old(s.n));
-    assert_eq!(of_part, map, "{s:?} {word:?} {marks:?}");
+    for before in [0, 1].map(|round| vec![used(round); s.n]) {
+        assert_eq!(decoded_into(s, word, marks, &before).2, map, "{s:?} {word:?} {marks:?}");
+        let (_, of_part) = decoded_part_into(s, word, marks, &vec![9; s.n - s.r], &before);
+        assert_eq!(of_part, map, "{s:?} {word:?} {marks:?}");
+    }
 }
 
 /// Struck places have 1, marked or not, and marked ones that were right have 0. It would catch a map of the marks, one that
@@ -130,7 +137,8 @@ fn each_slot_alone() {
         for slot in 0..s.slots() {
             let mut slots = frames::slots_of(frame::plain(s), &area);
             noise.strike(&mut slots, &[slot], 256);
-            let (answer, map) = received_into(s, &slots, &vec![0; s.slots()], &vec![9; s.area()], &old(s.slots()));
+            let (marks, map) = (vec![0; s.slots()], vec![used(slot); s.slots()]);
+            let (answer, map) = received_into(s, &slots, &marks, &vec![9; s.area()], &map);
             assert!(answer.is_ok(), "{s:?}");
             assert_eq!(map, ones(s.slots(), &[slot]), "{s:?}");
         }
@@ -160,7 +168,7 @@ fn frames_whose_words_were_corrected() {
             // More marks than check bytes are beyond reach, whatever the slots hold.
             noise.places(s.n, s.r + 1).iter().for_each(|i| marks[i * s.depth + last] = 1);
         }
-        let (answer, map) = received_into(s, &slots, &marks, &noise.bytes(s.area()), &old(size));
+        let (answer, map) = received_into(s, &slots, &marks, &noise.bytes(s.area()), &vec![used(round / 3); size]);
         let (refused, places) = match number {
             0 => (None, struck),
             4 => (Some((4, last)), vec![]),
