@@ -36,6 +36,7 @@ static void words(void)
     const uint8_t none[7] = { 0 };
     uint8_t word[7] = { 9, 9, 9, 9, 9, 9, 9 };
     uint8_t part[3] = { 9, 9, 9 };
+    uint8_t map[8] = { 9, 9, 9, 9, 9, 9, 9, 9 };
     yaxo_decoded d;
 
     EXPECT(yaxo_word_is_allowed(sklar));
@@ -50,23 +51,40 @@ static void words(void)
 
     word[2] = 5;
     word[3] = 1;
-    d = yaxo_word_decode_part(sklar, word, 7, none, 7, part, 3);
+    EXPECT(yaxo_word_decode_part(sklar, word, 7, none, 7, part, 3, map, 6).answer == YAXO_LENGTH);
+    EXPECT(yaxo_word_decode(sklar, word, 7, none, 7, map, 8).answer == YAXO_LENGTH);
+    SAME(part, { 9, 9, 9 });
+    SAME(map, { 9, 9, 9, 9, 9, 9, 9, 9 });
+    d = yaxo_word_decode_part(sklar, word, 7, none, 7, part, 3, map, 7);
     EXPECT(d.answer == YAXO_DONE && has_figures(d.figures, 2, 0, 4));
     SAME(part, { 7, 3, 2 });
     SAME(word, { 7, 3, 5, 1, 6, 4, 1 });
-    d = yaxo_word_decode(sklar, word, 7, none, 7);
+    SAME(map, { 0, 0, 1, 1, 0, 0, 0, 9 });
+    memset(map, 9, sizeof map);
+    d = yaxo_word_decode(sklar, word, 7, none, 7, map, 7);
     EXPECT(d.answer == YAXO_DONE && has_figures(d.figures, 2, 0, 4));
     SAME(word, { 7, 3, 2, 5, 6, 4, 1 });
+    SAME(map, { 0, 0, 1, 1, 0, 0, 0, 9 });
 
+    /* Marked symbols that were wrong are in the map, those that were right are not; refused 4 it is zeros, and 2 or 3 it stays. */
     memcpy(word, (const uint8_t[]){ 0, 0, 2 }, 3);
-    d = yaxo_word_decode(s, word, 3, (const uint8_t[]){ 1, 1, 0 }, 3);
+    d = yaxo_word_decode(s, word, 3, (const uint8_t[]){ 1, 1, 0 }, 3, map, 3);
     EXPECT(d.answer == YAXO_DONE && has_figures(d.figures, 0, 2, 3));
     SAME(word, { 1, 3, 2 });
-    d = yaxo_word_decode(s, word, 3, (const uint8_t[]){ 1, 1, 1 }, 3);
-    EXPECT(d.answer == YAXO_BEYOND_REACH && has_figures(d.figures, 0, 0, 0));
-    d = yaxo_word_decode(s, word, 3, (const uint8_t[]){ 0, 2, 0 }, 3);
+    SAME(map, { 1, 1, 0 });
+    d = yaxo_word_decode(s, word, 3, (const uint8_t[]){ 1, 1, 0 }, 3, map, 3);
+    EXPECT(d.answer == YAXO_DONE && has_figures(d.figures, 0, 2, 0));
+    SAME(map, { 0, 0, 0 });
+    memset(map, 9, sizeof map);
+    d = yaxo_word_decode(s, word, 3, (const uint8_t[]){ 0, 2, 0 }, 3, map, 3);
     EXPECT(d.answer == YAXO_SYMBOL);
+    d = yaxo_word_decode(s, word, 3, (const uint8_t[]){ 0, 2, 0 }, 3, map, 2);
+    EXPECT(d.answer == YAXO_LENGTH);
+    SAME(map, { 9, 9, 9 });
+    d = yaxo_word_decode(s, word, 3, (const uint8_t[]){ 1, 1, 1 }, 3, map, 3);
+    EXPECT(d.answer == YAXO_BEYOND_REACH && has_figures(d.figures, 0, 0, 0));
     SAME(word, { 1, 3, 2 });
+    SAME(map, { 0, 0, 0, 9 });
 }
 
 /* P11, both ways. */
@@ -138,6 +156,7 @@ static void frame(void)
     const uint8_t sent[10] = { 0, 0, 65, 2, 1, 1, 217, 13, 153, 14 };
     uint8_t slots[10] = { 0 };
     uint8_t area[6] = { 9, 9, 9, 9, 9, 9 };
+    uint8_t map[YAXO_FRAME_SLOTS(2, 5)] = { 9, 9, 9, 9, 9, 9, 9, 9, 9, 9 };
     yaxo_record record = yaxo_record_fresh();
     yaxo_received got;
     yaxo_heard heard;
@@ -148,33 +167,42 @@ static void frame(void)
     EXPECT(yaxo_frame_send(framing, (const uint8_t *)"A", 1, 258, slots, 9) == YAXO_LENGTH);
     EXPECT(memcmp(slots, none, 10) == 0);
     EXPECT(yaxo_frame_send(framing, NULL, 0, 7, slots, 10) == YAXO_DONE);
-    got = yaxo_frame_receive(framing, slots, 10, none, 10, area, 6);
+    got = yaxo_frame_receive(framing, slots, 10, none, 10, area, 6, map, 9);
+    EXPECT(got.answer == YAXO_LENGTH && got.sequence == 0);
+    SAME(area, { 9, 9, 9, 9, 9, 9 });
+    SAME(map, { 9, 9, 9, 9, 9, 9, 9, 9, 9, 9 });
+    got = yaxo_frame_receive(framing, slots, 10, none, 10, area, 6, map, 10);
     EXPECT(got.answer == YAXO_DONE && got.sequence == 7 && got.length == 0 && got.start == 2);
+    EXPECT(memcmp(map, none, 10) == 0);
     EXPECT(yaxo_frame_send(framing, (const uint8_t *)"A", 1, 258, slots, 10) == YAXO_DONE);
     EXPECT(memcmp(slots, sent, 10) == 0);
 
     slots[2] = 0;
     slots[3] = 0;
-    got = yaxo_frame_receive(framing, slots, 10, none, 10, area, 6);
+    got = yaxo_frame_receive(framing, slots, 10, none, 10, area, 6, map, 10);
     EXPECT(got.answer == YAXO_DONE && got.word == 0 && got.sequence == 258);
     EXPECT(got.length == 1 && got.start == 1 && area[got.start] == 'A');
     EXPECT(has_figures(got.figures[0], 1, 0, 2) && has_figures(got.figures[1], 1, 0, 1) && has_figures(got.figures[15], 0, 0, 0));
     SAME(area, { 0, 65, 1, 0, 2, 1 });
+    SAME(map, { 0, 0, 1, 1, 0, 0, 0, 0, 0, 0 });
 
     EXPECT(yaxo_record_standing(record.accepted, record.last, 258) == YAXO_NEWER);
-    got = yaxo_hear_in(&record, framing, slots, 10, none, 10, area, 6);
+    memset(map, 9, sizeof map);
+    got = yaxo_hear_in(&record, framing, slots, 10, none, 10, area, 6, map, 10);
     EXPECT(got.answer == YAXO_DONE && got.sequence == 258 && got.start == 1 && got.length == 1);
+    SAME(map, { 0, 0, 1, 1, 0, 0, 0, 0, 0, 0 });
     EXPECT(record.accepted == 1 && record.last == 258 && record.newer == 1);
     EXPECT(yaxo_record_standing(record.accepted, record.last, 258) == YAXO_REPEAT);
     EXPECT(yaxo_record_standing(record.accepted, record.last, 257) == YAXO_OLDER);
     EXPECT(yaxo_record_standing(1, 65535, 2) == YAXO_NEWER);
 
-    /* Two errors in word 0: refused, the area is zeros, and the record counts it. */
+    /* Two errors in word 0: refused, area and map are zeros, and the record counts it. */
     slots[4] = 77;
-    heard = yaxo_hear(record, framing, slots, 10, none, 10, area, 6);
+    heard = yaxo_hear(record, framing, slots, 10, none, 10, area, 6, map, 10);
     EXPECT(heard.answer.answer == YAXO_BEYOND_REACH && heard.answer.word == 0 && heard.answer.length == 0);
     EXPECT(heard.next.refused == 1 && heard.next.newer == 1 && heard.next.last == 258 && record.refused == 0);
     SAME(area, { 0, 0, 0, 0, 0, 0 });
+    EXPECT(memcmp(map, none, 10) == 0);
 
     /* The record where nothing but 0, 4 and 5 changes it, and a byte for `accepted` that C alone could have put there. */
     record.accepted = 7;
@@ -200,6 +228,8 @@ static void masts(void)
     uint8_t sent[10], struck[10], next[10];
     uint8_t first[6] = { 9, 9, 9, 9, 9, 9 };
     uint8_t second[6] = { 9, 9, 9, 9, 9, 9 };
+    uint8_t first_map[10] = { 9, 9, 9, 9, 9, 9, 9, 9, 9, 9 };
+    uint8_t second_map[10] = { 9, 9, 9, 9, 9, 9, 9, 9, 9, 9 };
     yaxo_record record = yaxo_record_fresh();
     yaxo_chosen got;
     yaxo_masts_heard heard;
@@ -210,57 +240,79 @@ static void masts(void)
     struck[2] = 0;
 
     /* An error weighs two and a mark one: the better copy is the second, then the first, and then neither is better. */
-    got = yaxo_masts_receive(framing, struck, 10, none, 10, first, 6, sent, 10, one, 10, second, 6);
+    got = yaxo_masts_receive(framing, struck, 10, none, 10, first, 6, first_map, 10,
+                             sent, 10, one, 10, second, 6, second_map, 10);
     EXPECT(got.mast == YAXO_MAST_SECOND && got.frame.answer == YAXO_DONE && got.frame.word == 0 && got.frame.sequence == 258);
     EXPECT(got.frame.start == 1 && got.frame.length == 1 && second[got.frame.start] == 'A');
     EXPECT(has_figures(got.frame.figures[0], 0, 1, 0) && has_figures(got.frame.figures[15], 0, 0, 0));
     SAME(first, { 0, 65, 1, 0, 2, 1 });
     SAME(second, { 0, 65, 1, 0, 2, 1 });
-    got = yaxo_masts_receive(framing, sent, 10, one, 10, first, 6, struck, 10, none, 10, second, 6);
+    SAME(first_map, { 0, 0, 1, 0, 0, 0, 0, 0, 0, 0 });
+    EXPECT(memcmp(second_map, none, 10) == 0);
+    got = yaxo_masts_receive(framing, sent, 10, one, 10, first, 6, first_map, 10,
+                             struck, 10, none, 10, second, 6, second_map, 10);
     EXPECT(got.mast == YAXO_MAST_FIRST && has_figures(got.frame.figures[0], 0, 1, 0));
-    got = yaxo_masts_receive(framing, struck, 10, none, 10, first, 6, sent, 10, two, 10, second, 6);
+    got = yaxo_masts_receive(framing, struck, 10, none, 10, first, 6, first_map, 10,
+                             sent, 10, two, 10, second, 6, second_map, 10);
     EXPECT(got.mast == YAXO_MAST_FIRST && has_figures(got.frame.figures[0], 1, 0, 2) && has_figures(got.frame.figures[1], 0, 0, 0));
-    got = yaxo_masts_receive((yaxo_framing){ 1, 5, 2, 0 }, sent, 5, none, 5, first, 3, sent, 5, none, 5, second, 3);
+    got = yaxo_masts_receive((yaxo_framing){ 1, 5, 2, 0 }, sent, 5, none, 5, first, 3, first_map, 5,
+                             sent, 5, none, 5, second, 3, second_map, 5);
     EXPECT(got.mast == YAXO_MAST_NEITHER && got.frame.answer == YAXO_SETTING);
 
     /* One refused: the other is used, and only it is counted. The record is the lent one, then the one that is given. */
-    got = yaxo_masts_hear_in(&record, framing, sent, 10, three, 10, first, 6, sent, 10, none, 10, second, 6);
+    got = yaxo_masts_hear_in(&record, framing, sent, 10, three, 10, first, 6, first_map, 10,
+                             sent, 10, none, 10, second, 6, second_map, 10);
     EXPECT(got.mast == YAXO_MAST_SECOND && got.frame.answer == YAXO_DONE && got.frame.start == 1 && got.frame.length == 1);
     EXPECT(record.accepted == 1 && record.last == 258 && record.newer == 1 && record.refused == 0);
     SAME(first, { 0, 0, 0, 0, 0, 0 });
     memset(second, 9, 6);
-    heard = yaxo_masts_hear(record, framing, next, 10, none, 10, first, 6, sent, 9, none, 10, second, 6);
+    memset(second_map, 9, 10);
+    heard = yaxo_masts_hear(record, framing, next, 10, none, 10, first, 6, first_map, 10,
+                            sent, 9, none, 10, second, 6, second_map, 10);
     EXPECT(heard.answer.mast == YAXO_MAST_FIRST && heard.answer.frame.sequence == 259);
     EXPECT(heard.answer.frame.start == 0 && heard.answer.frame.length == 2);
     EXPECT(heard.next.last == 259 && heard.next.newer == 2 && heard.next.refused == 0 && record.newer == 1);
     SAME(first, { 66, 67, 2, 0, 3, 1 });
     SAME(second, { 9, 9, 9, 9, 9, 9 });
+    SAME(second_map, { 9, 9, 9, 9, 9, 9, 9, 9, 9, 9 });
 
-    /* Both refused: the first's number and word decide, and each area is left by its own copy's answer. */
+    /* Both refused: the first's number and word decide, and each area and each map is left by its own copy's answer. */
     memset(first, 9, 6);
-    got = yaxo_masts_hear_in(&record, framing, sent, 10, bad, 10, first, 6, sent, 10, three, 10, second, 6);
+    memset(first_map, 9, 10);
+    got = yaxo_masts_hear_in(&record, framing, sent, 10, bad, 10, first, 6, first_map, 10,
+                             sent, 10, three, 10, second, 6, second_map, 10);
     EXPECT(got.mast == YAXO_MAST_NEITHER && got.frame.answer == YAXO_SYMBOL && got.frame.word == 0 && record.refused == 0);
     SAME(first, { 9, 9, 9, 9, 9, 9 });
     SAME(second, { 0, 0, 0, 0, 0, 0 });
-    got = yaxo_masts_hear_in(&record, framing, sent, 10, three, 10, first, 6, sent, 10, bad, 10, second, 6);
+    SAME(first_map, { 9, 9, 9, 9, 9, 9, 9, 9, 9, 9 });
+    EXPECT(memcmp(second_map, none, 10) == 0);
+    got = yaxo_masts_hear_in(&record, framing, sent, 10, three, 10, first, 6, first_map, 10,
+                             sent, 10, bad, 10, second, 6, second_map, 10);
     EXPECT(got.mast == YAXO_MAST_NEITHER && got.frame.answer == YAXO_BEYOND_REACH && got.frame.word == 1 && got.frame.length == 0);
     EXPECT(record.last == 258 && record.newer == 1 && record.refused == 1);
 
-    /* Two frames: neither is used, both are decoded, and the record stays. */
-    got = yaxo_masts_hear_in(&record, framing, struck, 10, none, 10, first, 6, next, 10, one, 10, second, 6);
+    /* Two frames: neither is used, both are decoded and mapped, and the record stays. */
+    next[9] ^= 1;
+    got = yaxo_masts_hear_in(&record, framing, struck, 10, none, 10, first, 6, first_map, 10,
+                             next, 10, one, 10, second, 6, second_map, 10);
     EXPECT(got.mast == YAXO_MAST_NEITHER && got.frame.answer == YAXO_DIFFER && got.frame.word == 0 && got.frame.sequence == 0);
     EXPECT(got.frame.start == 0 && got.frame.length == 0 && has_figures(got.frame.figures[0], 0, 0, 0));
     EXPECT(record.last == 258 && record.newer == 1 && record.repeat == 0 && record.older == 0 && record.refused == 1);
     SAME(first, { 0, 65, 1, 0, 2, 1 });
     SAME(second, { 66, 67, 2, 0, 3, 1 });
+    SAME(first_map, { 0, 0, 1, 0, 0, 0, 0, 0, 0, 0 });
+    SAME(second_map, { 0, 0, 0, 0, 0, 0, 0, 0, 0, 1 });
 }
 
-/* The cross line both ways: a run of ten lost frames, and each message 108 frames after it was sent. */
+/*
+ * The cross line both ways: a run of ten lost frames, a wrong last byte now and then, and each message 108 frames after it was
+ * sent. The map tells of the frame that comes in, under 7 too, and is zeros for a lost one.
+ */
 static void cross(void)
 {
     enum { FRAMES = 300 };
     uint8_t sender[YAXO_CROSS_MEMORY], receiver[YAXO_CROSS_MEMORY], held[YAXO_CROSS_MEMORY];
-    uint8_t message[YAXO_CROSS_MESSAGE], word[YAXO_CROSS_WORD], out[YAXO_CROSS_MESSAGE];
+    uint8_t message[YAXO_CROSS_MESSAGE], word[YAXO_CROSS_WORD], out[YAXO_CROSS_MESSAGE], map[YAXO_CROSS_WORD];
     yaxo_ready at;
     yaxo_ready there;
     yaxo_cross_received got;
@@ -271,17 +323,25 @@ static void cross(void)
     there = yaxo_cross_fresh_receiver(receiver, sizeof receiver, held, sizeof held);
     EXPECT(at.answer == YAXO_DONE && at.position == 0 && there.answer == YAXO_DONE && there.position == 0);
     for (unsigned f = 0; f < FRAMES; f++) {
+        const bool lost = 120 <= f && f < 130;
+        const bool struck = f % 50 == 25 && !lost;
         for (unsigned i = 0; i < sizeof message; i++) {
             message[i] = (uint8_t)(31 * f + i);
         }
         at = yaxo_cross_send(at.position, sender, sizeof sender, message, sizeof message, word, sizeof word);
         EXPECT(at.answer == YAXO_DONE && at.position == f + 1);
-        if (120 <= f && f < 130) {
+        if (lost) {
             memset(word, (int)f, sizeof word);
         }
+        word[31] ^= struck;
         memset(out, 0xEE, sizeof out);
-        got = yaxo_cross_receive(there.position, receiver, sizeof receiver, held, sizeof held, word, sizeof word, out, sizeof out);
+        memset(map, 0xEE, sizeof map);
+        got = yaxo_cross_receive(there.position, receiver, sizeof receiver, held, sizeof held, word, sizeof word, out, sizeof out,
+                                 map, sizeof map);
         there.position = got.position;
+        for (unsigned i = 0; i < sizeof map; i++) {
+            EXPECT(map[i] == (struck && i == 31));
+        }
         if (f < YAXO_CROSS_DELAY) {
             EXPECT(got.answer == YAXO_NOT_YET && out[0] == 0xEE && out[23] == 0xEE);
             continue;
@@ -296,8 +356,13 @@ static void cross(void)
     EXPECT(marked == 280);
 
     held[5] = 2;
-    got = yaxo_cross_receive(there.position, receiver, sizeof receiver, held, sizeof held, word, sizeof word, out, sizeof out);
+    memset(map, 0xEE, sizeof map);
+    got = yaxo_cross_receive(there.position, receiver, sizeof receiver, held, sizeof held, word, sizeof word, out, sizeof out,
+                             map, sizeof map);
     EXPECT(got.answer == YAXO_SYMBOL && got.position == FRAMES);
+    got = yaxo_cross_receive(there.position, receiver, sizeof receiver, held, sizeof held, word, sizeof word, out, sizeof out,
+                             map, sizeof map - 1);
+    EXPECT(got.answer == YAXO_LENGTH && got.position == FRAMES && map[0] == 0xEE && map[31] == 0xEE);
     EXPECT(yaxo_cross_send((size_t)-1, sender, sizeof sender, message, sizeof message, word, sizeof word).answer == YAXO_SETTING);
 }
 
