@@ -12,10 +12,15 @@ def payload(n):
 
 def struck(data, e):
     """The same input with e wrong places in every word."""
-    out, J, n = bytearray(data), data[0], data[1]
-    for w in range(J):
-        for i in draw.sample(range(n), e):
-            out[4 + i * J + w] ^= draw.randint(1, 255)
+    J, n = data[0], data[1]
+    return struck_in(data, (i * J + w for w in range(J) for i in draw.sample(range(n), e)))
+
+
+def struck_in(data, slots):
+    """The same input with these slots wrong."""
+    out = bytearray(data)
+    for slot in slots:
+        out[4 + slot] ^= draw.randint(1, 255)
     return bytes(out)
 
 
@@ -39,6 +44,10 @@ cases = {
     "odd_r_beyond": struck(model.sent(5, 60, 7, 0, payload(100), 999), 4),
     "b_1": struck(model.sent(1, 40, 8, 1, payload(20), 1000), 4),
     "at_the_limit": struck(frame, 3),
+    "first_and_last_slot": struck_in(frame, [0, 4 * 32 - 1]),
+    "ten_slots_in_a_row": struck_in(frame, range(95, 105)),
+    # no text is longer: a full payload, and every changed slot has four digits
+    "longest_text": struck_in(model.sent(16, 255, 16, 1, payload(16 * 239 - 4), 65535), range(247 * 16, 255 * 16)),
 }
 for name, data in cases.items():
     with open(name + ".in", "wb") as f:

@@ -138,15 +138,16 @@ def spoken(data):
     slots = data[4:]
     if len(slots) != n * J:
         return b"refused 2\n"
-    area, figures = [], []
+    area, figures, changed = [], [], []
     for w in range(J):
         word = [slots[i * J + w] for i in range(n)]
         right = corrected(word, r, b)
         if right is None:
             return b"refused 4\n"
         area += right[: n - r]
-        wrong = [x ^ y for x, y in zip(word, right) if x != y]
-        figures.append((len(wrong), sum(bin(x).count("1") for x in wrong)))
+        wrong = [i for i in range(n) if word[i] != right[i]]
+        figures.append((len(wrong), sum(bin(word[i] ^ right[i]).count("1") for i in wrong)))
+        changed += [i * J + w for i in wrong]
     end = len(area) - 4
     back = area[end] + 256 * area[end + 1]
     if back > end or any(area[: end - back]):
@@ -154,4 +155,5 @@ def spoken(data):
     lines = ["frame %d payload %d" % (area[end + 2] + 256 * area[end + 3], back)]
     lines += ["word %d errors %d marked 0 bits %d" % (w, e, k) for w, (e, k) in enumerate(figures)]
     lines.append(bytes(area[end - back : end]).hex().upper())
+    lines.append(" ".join(str(slot) for slot in sorted(changed)))
     return ("\n".join(lines) + "\n").encode()
