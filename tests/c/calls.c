@@ -260,11 +260,13 @@ static void masts(void)
     EXPECT(got.mast == YAXO_MAST_NEITHER && got.frame.answer == YAXO_SETTING);
 
     /* One refused: the other is used, and only it is counted. The record is the lent one, then the one that is given. */
+    memset(first_map, 9, 10);
     got = yaxo_masts_hear_in(&record, framing, sent, 10, three, 10, first, 6, first_map, 10,
                              sent, 10, none, 10, second, 6, second_map, 10);
     EXPECT(got.mast == YAXO_MAST_SECOND && got.frame.answer == YAXO_DONE && got.frame.start == 1 && got.frame.length == 1);
     EXPECT(record.accepted == 1 && record.last == 258 && record.newer == 1 && record.refused == 0);
     SAME(first, { 0, 0, 0, 0, 0, 0 });
+    EXPECT(memcmp(first_map, none, 10) == 0);
     memset(second, 9, 6);
     memset(second_map, 9, 10);
     heard = yaxo_masts_hear(record, framing, next, 10, none, 10, first, 6, first_map, 10,
