@@ -21,7 +21,7 @@ fn read_input(input: &mut [u8]) -> usize
 
 fn main() {
     let mut input = io::buffer();
-    let mut text = [0u8; 9000];
+    let mut text = [0u8; 30000];
     let n = read_input(&mut input);
     let count = reader::report(&input[..n], &mut text);
     io::write_all(STDOUT_FILENO, &text[..count]);

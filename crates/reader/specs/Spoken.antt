@@ -21,9 +21,9 @@ unfoldable pub answerTo : Framing → List ℕ → ReceiveOutcome
 answerTo f slots = receiving f slots (blank (slotCount f)) (blank (areaSize f))
 
 -- what is said of an answer
-unfoldable pub told : ℕ → ReceiveOutcome → List ℕ
-told depth o = if eqb (o .number) 0 then frameText depth (o .sequence) (o .figures) (o .payload) else refusal (o .number)
+unfoldable pub told : ℕ → ReceiveOutcome → List ℕ → List ℕ
+told depth o map = if eqb (o .number) 0 then frameText depth (o .sequence) (o .figures) (o .payload) map else refusal (o .number)
 
 -- the whole text; under four bytes is 2 at once
 unfoldable pub spoken : List ℕ → List ℕ
-spoken input = if ltb (length input) 4 then refusal 2 else told (at input 0) (answerTo (framingOf input) (drop 4 input))
+spoken input = if ltb (length input) 4 then refusal 2 else told (at input 0) (answerTo (framingOf input) (drop 4 input)) (blank (slotCount (framingOf input)))

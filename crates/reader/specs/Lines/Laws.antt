@@ -9,7 +9,7 @@ use Rattle.word.specs.declared.Figures.{Figures}
 use Rattle.algebra.specs.Lists.{joined, joined-more}
 use Rattle.text.specs.Text.{bytes, named, hexes}
 use Rattle.text.specs.Put.{Put, put-none, put-then}
-use Rattle.reader.specs.Lines.{newline, firstLine, wordLine, wordLines, frameText}
+use Rattle.reader.specs.Lines.{newline, firstLine, wordLine, wordLines, slotsLine, frameText}
 
 module _ {text t₁ t₂ left : List ℕ} {at a₁ a₂ end : ℕ} where
   pub put-opening : (sequence size : ℕ) → Put (named (bytes "frame ") sequence) text at a₁ t₁ → Put (named (bytes " payload ") size) t₁ a₁ a₂ t₂
@@ -17,11 +17,12 @@ module _ {text t₁ t₂ left : List ℕ} {at a₁ a₂ end : ℕ} where
   unfolding firstLine
   put-opening sequence size p q r = put-then (put-then p q) r
 
-module _ {text t₁ t₂ t₃ left : List ℕ} {at a₁ a₂ a₃ end : ℕ} where
-  pub put-accepted : (depth sequence : ℕ) (figures : List Figures) (payload : List ℕ) → Put (firstLine sequence (length payload)) text at a₁ t₁
-      → Put (wordLines depth figures) t₁ a₁ a₂ t₂ → Put (hexes payload) t₂ a₂ a₃ t₃ → Put newline t₃ a₃ end left → Put (frameText depth sequence figures payload) text at end left
+module _ {text t₁ t₂ t₃ t₄ left : List ℕ} {at a₁ a₂ a₃ a₄ end : ℕ} where
+  pub put-accepted : (depth sequence : ℕ) (figures : List Figures) (payload map : List ℕ) → Put (firstLine sequence (length payload)) text at a₁ t₁
+      → Put (wordLines depth figures) t₁ a₁ a₂ t₂ → Put (hexes payload) t₂ a₂ a₃ t₃ → Put newline t₃ a₃ a₄ t₄ → Put (slotsLine map) t₄ a₄ end left
+      → Put (frameText depth sequence figures payload map) text at end left
   unfolding frameText
-  put-accepted depth sequence figures payload p q r s = put-then (put-then (put-then p q) r) s
+  put-accepted depth sequence figures payload map p q r s u = put-then (put-then (put-then (put-then p q) r) s) u
 
 -- e, f and k are the word's figures
 module _ {text t₁ t₂ t₃ t₄ left : List ℕ} {at a₁ a₂ a₃ a₄ end : ℕ} where

@@ -25,13 +25,13 @@ use Rattle.reader.specs.Spoken.{blank, answerTo, told, spoken}
 
 -- ---- what is said of an answer
 
-module _ (depth : ℕ) (r : Received) (area : List ℕ) (o : ReceiveOutcome) (e : receiveOutcome r area ≡ o) (k : ℕ) (n : k ≡ numberOf (r .verdict)) {text after : List ℕ} {at last : ℕ} where
-  pub told-refused : (k ≡ 0 → ⊥) → Put (refusal k) text at last after → Put (told depth o) text at last after
+module _ (depth : ℕ) (r : Received) (area : List ℕ) (o : ReceiveOutcome) (e : receiveOutcome r area ≡ o) (k : ℕ) (n : k ≡ numberOf (r .verdict)) (map : List ℕ) {text after : List ℕ} {at last : ℕ} where
+  pub told-refused : (k ≡ 0 → ⊥) → Put (refusal k) text at last after → Put (told depth o map) text at last after
   unfolding told
   told-refused z p = rw (← e, ← n, ne-eqb k 0 z) p
 
-  pub told-accepted : k ≡ 0 → (payload : List ℕ) → payload ≡ payloadOf r area → Put (frameText depth (r .sequence) (r .figures) payload) text at last after
-      → Put (told depth o) text at last after
+  pub told-accepted : k ≡ 0 → (payload : List ℕ) → payload ≡ payloadOf r area → Put (frameText depth (r .sequence) (r .figures) payload map) text at last after
+      → Put (told depth o map) text at last after
   unfolding told
   told-accepted z payload h p = rw (← e, ← n, z, ← h) p
 
@@ -54,7 +54,7 @@ module _ (input : List ℕ) where
 
   module _ (long : 4 ≤ length input) where
     -- the code's slots are the part from 4 to the end
-    pub spoken-answer : told (at input 0) (answerTo (framingOf input) (take (length input - 4) (drop 4 input))) ≡ spoken input
+    pub spoken-answer : told (at input 0) (answerTo (framingOf input) (take (length input - 4) (drop 4 input))) (blank (slotCount (framingOf input))) ≡ spoken input
     unfolding spoken
     spoken-answer = rw (le-ltb (length input) 4 long, take-all (length input - 4) (drop 4 input) (simp length-drop (omega arith)))
 
@@ -79,8 +79,8 @@ pub part-size : (n : ℕ) (w : List ℕ) → n ≤ 4080 → length w ≡ 4080 �
 part-size n w l e = sym (length-take-le n w (omega arith))
 
 -- the work space's parts are the marks and the area that are meant
-pub unmarked : (f : Framing) (slots w₁ w₂ : List ℕ) → FrameAllowed f → w₁ ≡ blank 4080 → w₂ ≡ blank 4080
-    → receiving f slots (take (slotCount f) w₁) (take (areaSize f) w₂) ≡ answerTo f slots
+pub unmarked : (f : Framing) (slots w₁ w₂ w₃ : List ℕ) (depth : ℕ) → FrameAllowed f → w₁ ≡ blank 4080 → w₂ ≡ blank 4080 → w₃ ≡ blank 4080
+    → told depth (receiving f slots (take (slotCount f) w₁) (take (areaSize f) w₂)) (take (slotCount f) w₃) ≡ told depth (answerTo f slots) (blank (slotCount f))
 unfolding answerTo
-unmarked f slots w₁ w₂ l e g =
-    rw (e, g, blank-front (slotCount f) 4080 (slots-few f l), blank-front (areaSize f) 4080 (area-few f l))
+unmarked f slots w₁ w₂ w₃ depth l e g h =
+    rw (e, g, h, blank-front (slotCount f) 4080 (slots-few f l), blank-front (areaSize f) 4080 (area-few f l))

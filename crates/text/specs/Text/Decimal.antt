@@ -40,6 +40,9 @@ module _ (n : ℕ) where
   pub decimal-more-size : 10 ≤ n → length (decimal n) ≡ length (decimal (n / 10)) + 1
   decimal-more-size l = rw (decimal-more l, length-append)
 
+  pub decimal-some : 0 < length (decimal n)
+  decimal-some = by-size n (λ l. rw (decimal-one l) (omega arith)) (λ l. omega (arith, decimal-more-size l))
+
   pub signed-plus : n < 2147483648 → signed n ≡ decimal n
   unfolding signed
   signed-plus l = rw (lt-ltb n 2147483648 l)

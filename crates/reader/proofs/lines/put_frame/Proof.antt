@@ -1,4 +1,4 @@
--- `put_frame` meets its contract: the first line, the words' lines, the payload and the line's end.
+-- `put_frame` meets its contract: the first line, the words' lines, the payload, its line's end and the changed slots.
 -- Assumes nothing.
 use borrow.Author.Needs.{needs}
 use Rattle.reader.specs.Lines.Laws.{put-accepted}
@@ -17,16 +17,20 @@ put-hexes-requires c κs = search needs
 put-byte-requires : tie.Need-put-byte-requires
 put-byte-requires c κs = search needs
 
+put-slots-requires : tie.Need-put-slots-requires
+put-slots-requires c κs = search needs
+
 same-length : tie.Need-same-length
 same-length c = search needs
 
 returns : tie.Need-returns
 returns c =
     let written = c .before .before in
-    let payload = written .before .before .before .before in
+    let ended = written .before .before .before .before in
+    let payload = ended .before .before .before .before in
     let words = payload .before .before .before .before in
     let opening = words .before .before .before .before in
-    put-accepted _ _ _ _ (opening .put-first .ensures .0) (words .put-words .ensures .0) (payload .put-hexes .ensures .0) (written .put-byte .ensures)
+    put-accepted _ _ _ _ _ (opening .put-first .ensures .0) (words .put-words .ensures .0) (payload .put-hexes .ensures .0) (ended .put-byte .ensures) (written .put-slots .ensures .0)
 
 pub put-frame-spec : {M : Type 1} → statement M
 put-frame-spec =
@@ -36,5 +40,6 @@ put-frame-spec =
     put-words-requires
     put-hexes-requires
     put-byte-requires
+    put-slots-requires
     same-length
     returns)

@@ -26,13 +26,13 @@ returns c =
     let written = c .before .before in
     let refused = written .before .before in
     let number = refused .before in
-    told-refused _ _ _ _ (number .before .before .before .receive .ensures .outcome) _ (number .number-of .ensures) (refused .if1 .taken) (written .put-refusal .ensures)
+    told-refused _ _ _ _ (number .before .before .before .receive .ensures .outcome) _ (number .number-of .ensures) _ (refused .if1 .taken) (written .put-refusal .ensures)
 
 payload-requires : tie.Need-payload-requires
 payload-requires c κs = search needs
 
 put-frame-requires : tie.Need-put-frame-requires
-put-frame-requires c κs = omega (arith, payload-fits _ _ _ (c .before .payload .ensures .outcome))
+put-frame-requires c κs = omega (arith, payload-fits _ _ _ (c .before .before .payload .ensures .outcome))
 
 same-length-3 : tie.Need-same-length-3
 same-length-3 c = search needs
@@ -40,13 +40,16 @@ same-length-3 c = search needs
 same-length-4 : tie.Need-same-length-4
 same-length-4 c = search needs
 
+same-length-5 : tie.Need-same-length-5
+same-length-5 c = search needs
+
 returns-2 : tie.Need-returns-2
 returns-2 c =
     let written = c .before .before in
-    let part = written .before .before in
+    let part = written .before .before .before in
     let accepted = part .before .before .before in
     let number = accepted .before in
-    told-accepted _ _ _ _ (number .before .before .before .receive .ensures .outcome) _ (number .number-of .ensures) (accepted .if1 .left) _ (part .payload .ensures .outcome) (written .put-frame .ensures)
+    told-accepted _ _ _ _ (number .before .before .before .receive .ensures .outcome) _ (number .number-of .ensures) _ (accepted .if1 .left) _ (part .payload .ensures .outcome) (written .put-frame .ensures)
 
 pub put-answer-spec : {M : Type 1} → statement M
 put-answer-spec =
@@ -62,4 +65,5 @@ put-answer-spec =
     put-frame-requires
     same-length-3
     same-length-4
+    same-length-5
     returns-2)
