@@ -2,7 +2,6 @@
 -- Assumes nothing.
 use native.Mathlib.Omega.{arith}
 use Prim.Native.Nat.{_+_, _-_, _*_, _≤_}
-use borrow.Author.Needs.{needs}
 use lib.ListN.{length}
 use Rattle.text.specs.Put.{Put, put-size}
 use Rattle.reader.specs.Lines.{changedBelow, spaced}
