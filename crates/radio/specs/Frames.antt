@@ -46,8 +46,8 @@ frameSeen area t =
 abbrev pub FrameSend : FrameSetting → List ℕ → ℕ → List ℕ → ℕ → List ℕ → Type 0
 FrameSend s payload sequence slots r left = Shows sentNumber (λ d. Sends (framingOf s) payload sequence slots d left) r
 
-abbrev pub FrameReceive : FrameSetting → List ℕ → List ℕ → List ℕ → FrameAnswer → List ℕ → Type 0
-FrameReceive s slots marks area r left = Shows (frameSeen left) (λ t. Receives (framingOf s) slots marks area t left) r
+abbrev pub FrameReceive : FrameSetting → (slots marks area map : List ℕ) → FrameAnswer → (left left-map : List ℕ) → Type 0
+FrameReceive s slots marks area map r left left-map = Shows (frameSeen left) (λ t. Receives (framingOf s) slots marks area map t left left-map) r
 
 -- ---- laws
 
@@ -91,7 +91,7 @@ payload-place t area = by-verdict (t .verdict)
     by-verdict (BeyondReach w) = refl
     by-verdict BadTrailer = refl
 
--- ---- no second answer: of each call's answer, and of what it leaves in the lent slots or area
+-- ---- no second answer: of each call's answer, and of what it leaves in the lent slots, or in the area and the map
 
 pub frame-is-allowed-once : (s : FrameSetting) (r q : Bool) → r ≡ allowedFrame (framingOf s) → q ≡ allowedFrame (framingOf s) → r ≡ q
 frame-is-allowed-once s r q p u = cc
@@ -102,7 +102,8 @@ module _ (s : FrameSetting) where
       let (e, l) = sends-once (p .promised) (u .promised) in
       (shown-once p u refl e, l)
 
-  pub frame-receive-once : (slots marks area : List ℕ) (r q : FrameAnswer) (x y : List ℕ) → FrameReceive s slots marks area r x → FrameReceive s slots marks area q y → (r ≡ q) × (x ≡ y)
-  frame-receive-once slots marks area r q x y p u =
-      let (e, l) = receives-once (p .promised) (u .promised) in
-      (shown-once p u (ap frameSeen l) e, l)
+  pub frame-receive-once : (slots marks area map : List ℕ) (r q : FrameAnswer) (x y x′ y′ : List ℕ)
+      → FrameReceive s slots marks area map r x x′ → FrameReceive s slots marks area map q y y′ → (r ≡ q) × (x ≡ y) × (x′ ≡ y′)
+  frame-receive-once slots marks area map r q x y x′ y′ p u =
+      let (e, l, m) = receives-once (p .promised) (u .promised) in
+      (shown-once p u (ap frameSeen l) e, l, m)

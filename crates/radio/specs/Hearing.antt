@@ -23,11 +23,12 @@ abbrev pub heardSeen : LentRecord → List ℕ → Heard → HeardAnswer
 heardSeen before area t = bothSeen (recordSeen before (t .next)) (frameSeen area (t .answer))
 
 -- `yaxo_hear` answers this, and `yaxo_hear_in` leaves the record and answers the rest
-abbrev pub Hear : LentRecord → FrameSetting → List ℕ → List ℕ → List ℕ → HeardAnswer → List ℕ → Type 0
-Hear h s slots marks area r left = Shows (heardSeen h left) (λ t. Hears (recordOf h) (framingOf s) slots marks area (t .answer) (t .next) left) r
+abbrev pub Hear : LentRecord → FrameSetting → (slots marks area map : List ℕ) → HeardAnswer → (left left-map : List ℕ) → Type 0
+Hear h s slots marks area map r left left-map = Shows (heardSeen h left) (λ t. Hears (recordOf h) (framingOf s) slots marks area map (t .answer) (t .next) left left-map) r
 
--- no second answer, and nothing else is left in the lent record and area
-pub hear-once : (h : LentRecord) (s : FrameSetting) (slots marks area : List ℕ) (r q : HeardAnswer) (x y : List ℕ) → Hear h s slots marks area r x → Hear h s slots marks area q y → (r ≡ q) × (x ≡ y)
-hear-once h s slots marks area r q x y p u =
-    let (a, n, l) = hears-once (p .promised) (u .promised) in
-    (shown-once p u (ap (heardSeen h) l) (ap₂ (λ (k : Record) (t : _). record { next = k; answer = t }) n a), l)
+-- no second answer, and nothing else is left in the lent record, area and map
+pub hear-once : (h : LentRecord) (s : FrameSetting) (slots marks area map : List ℕ) (r q : HeardAnswer) (x y x′ y′ : List ℕ)
+    → Hear h s slots marks area map r x x′ → Hear h s slots marks area map q y y′ → (r ≡ q) × (x ≡ y) × (x′ ≡ y′)
+hear-once h s slots marks area map r q x y x′ y′ p u =
+    let (a, n, l, m) = hears-once (p .promised) (u .promised) in
+    (shown-once p u (ap (heardSeen h) l) (ap₂ (λ (k : Record) (t : _). record { next = k; answer = t }) n a), l, m)

@@ -14,7 +14,7 @@ use Rattle.algebra.specs.Tests.{if_then_else_}
 use Rattle.record.specs.declared.Record.{Record}
 use Rattle.frame.specs.Frame.{numberOf, verdictAs, payloadOf}
 use Rattle.frame.specs.declared.setting.Verdict.the-variants.{BadSetting, BadLength, BadMark, BeyondReach, BadTrailer}
-use Rattle.link.specs.Masts.{Copy, payloadOfUsed, usedCopy}
+use Rattle.link.specs.Masts.{Copy, Left, payloadOfUsed, usedCopy}
 use Rattle.link.specs.Promises.{ReceivesMasts, receives-masts-once, HearsMasts, hears-masts-once}
 use Rattle.link.specs.declared.choice.Mast.{Mast}
 use Rattle.link.specs.declared.choice.Mast.the-variants.{First, Second, Neither}
@@ -68,24 +68,24 @@ mastsSeen before first second t = bothMastsSeen (recordSeen before (t .next)) (c
 
 -- ---- the promises, each of the call below with what is seen of its answer
 
-abbrev pub MastsReceive : FrameSetting → (first second : Copy) → ChosenAnswer → (left-first left-second : List ℕ) → Type 0
-MastsReceive s first second r x y = Shows (chosenSeen x y) (λ t. ReceivesMasts (framingOf s) first second t x y) r
+abbrev pub MastsReceive : FrameSetting → (first second : Copy) → ChosenAnswer → (left-first left-second : Left) → Type 0
+MastsReceive s first second r x y = Shows (chosenSeen (x .area) (y .area)) (λ t. ReceivesMasts (framingOf s) first second t x y) r
 
 -- `yaxo_masts_hear` answers this, and `yaxo_masts_hear_in` leaves the record and answers the rest
-abbrev pub MastsHear : LentRecord → FrameSetting → (first second : Copy) → MastsAnswer → (left-first left-second : List ℕ) → Type 0
-MastsHear h s first second r x y = Shows (mastsSeen h x y) (λ t. HearsMasts (recordOf h) (framingOf s) first second (t .answer) (t .next) x y) r
+abbrev pub MastsHear : LentRecord → FrameSetting → (first second : Copy) → MastsAnswer → (left-first left-second : Left) → Type 0
+MastsHear h s first second r x y = Shows (mastsSeen h (x .area) (y .area)) (λ t. HearsMasts (recordOf h) (framingOf s) first second (t .answer) (t .next) x y) r
 
--- ---- no second answer, and nothing else is left in the lent record and areas
+-- ---- no second answer, and nothing else is left in the lent record, areas and maps
 
-pub masts-receive-once : (s : FrameSetting) (first second : Copy) (r q : ChosenAnswer) (x y x′ y′ : List ℕ) → MastsReceive s first second r x y → MastsReceive s first second q x′ y′ → (r ≡ q) × (x ≡ x′) × (y ≡ y′)
+pub masts-receive-once : (s : FrameSetting) (first second : Copy) (r q : ChosenAnswer) (x y x′ y′ : Left) → MastsReceive s first second r x y → MastsReceive s first second q x′ y′ → (r ≡ q) × (x ≡ x′) × (y ≡ y′)
 masts-receive-once s first second r q x y x′ y′ p u =
     let (e, l, m) = receives-masts-once (p .promised) (u .promised) in
-    (shown-once p u (ap₂ chosenSeen l m) e, l, m)
+    (shown-once p u (ap₂ (λ (a b : Left). chosenSeen (a .area) (b .area)) l m) e, l, m)
 
-pub masts-hear-once : (h : LentRecord) (s : FrameSetting) (first second : Copy) (r q : MastsAnswer) (x y x′ y′ : List ℕ) → MastsHear h s first second r x y → MastsHear h s first second q x′ y′ → (r ≡ q) × (x ≡ x′) × (y ≡ y′)
+pub masts-hear-once : (h : LentRecord) (s : FrameSetting) (first second : Copy) (r q : MastsAnswer) (x y x′ y′ : Left) → MastsHear h s first second r x y → MastsHear h s first second q x′ y′ → (r ≡ q) × (x ≡ x′) × (y ≡ y′)
 masts-hear-once h s first second r q x y x′ y′ p u =
     let (a, n, l, m) = hears-masts-once (p .promised) (u .promised) in
-    (shown-once p u (ap₂ (mastsSeen h) l m) (ap₂ (λ (k : Record) (t : Chosen). record { next = k; answer = t }) n a), l, m)
+    (shown-once p u (ap₂ (λ (a b : Left). mastsSeen h (a .area) (b .area)) l m) (ap₂ (λ (k : Record) (t : Chosen). record { next = k; answer = t }) n a), l, m)
 
 -- ---- the place
 

@@ -25,13 +25,13 @@ decodedSeen d = record { answer = numberOf d; figures = figuresOf d }
 abbrev pub WordEncode : CodeSetting → List ℕ → List ℕ → ℕ → List ℕ → Type 0
 WordEncode s message word r left = Shows encodedNumber (λ d. Encodes (codeOf s) message word d left) r
 
-abbrev pub WordDecode : CodeSetting → List ℕ → List ℕ → WordAnswer → List ℕ → Type 0
-WordDecode s received marks r left = Shows decodedSeen (λ d. Decodes (codeOf s) received marks d left) r
+abbrev pub WordDecode : CodeSetting → (received marks map : List ℕ) → WordAnswer → (left left-map : List ℕ) → Type 0
+WordDecode s received marks map r left left-map = Shows decodedSeen (λ d. Decodes (codeOf s) received marks map d left left-map) r
 
-abbrev pub WordDecodePart : CodeSetting → List ℕ → List ℕ → List ℕ → WordAnswer → List ℕ → Type 0
-WordDecodePart s received marks part r left = Shows decodedSeen (λ d. DecodesPart (codeOf s) received marks part d left) r
+abbrev pub WordDecodePart : CodeSetting → (received marks part map : List ℕ) → WordAnswer → (left left-map : List ℕ) → Type 0
+WordDecodePart s received marks part map r left left-map = Shows decodedSeen (λ d. DecodesPart (codeOf s) received marks part map d left left-map) r
 
--- ---- no second answer: of each call's answer, and of what it leaves in the lent word or part
+-- ---- no second answer: of each call's answer, and of what it leaves in the lent word or part and in the map
 
 pub word-is-allowed-once : (s : CodeSetting) (r q : Bool) → r ≡ allowed (codeOf s) → q ≡ allowed (codeOf s) → r ≡ q
 word-is-allowed-once s r q p u = cc
@@ -42,12 +42,14 @@ module _ (s : CodeSetting) where
       let (e, l) = encodes-once (p .promised) (u .promised) in
       (shown-once p u refl e, l)
 
-  pub word-decode-once : (received marks : List ℕ) (r q : WordAnswer) (x y : List ℕ) → WordDecode s received marks r x → WordDecode s received marks q y → (r ≡ q) × (x ≡ y)
-  word-decode-once received marks r q x y p u =
-      let (e, l) = decodes-once (p .promised) (u .promised) in
-      (shown-once p u refl e, l)
+  pub word-decode-once : (received marks map : List ℕ) (r q : WordAnswer) (x y x′ y′ : List ℕ)
+      → WordDecode s received marks map r x x′ → WordDecode s received marks map q y y′ → (r ≡ q) × (x ≡ y) × (x′ ≡ y′)
+  word-decode-once received marks map r q x y x′ y′ p u =
+      let (e, l, m) = decodes-once (p .promised) (u .promised) in
+      (shown-once p u refl e, l, m)
 
-  pub word-decode-part-once : (received marks part : List ℕ) (r q : WordAnswer) (x y : List ℕ) → WordDecodePart s received marks part r x → WordDecodePart s received marks part q y → (r ≡ q) × (x ≡ y)
-  word-decode-part-once received marks part r q x y p u =
-      let (e, l) = decodes-part-once (p .promised) (u .promised) in
-      (shown-once p u refl e, l)
+  pub word-decode-part-once : (received marks part map : List ℕ) (r q : WordAnswer) (x y x′ y′ : List ℕ)
+      → WordDecodePart s received marks part map r x x′ → WordDecodePart s received marks part map q y y′ → (r ≡ q) × (x ≡ y) × (x′ ≡ y′)
+  word-decode-part-once received marks part map r q x y x′ y′ p u =
+      let (e, l, m) = decodes-part-once (p .promised) (u .promised) in
+      (shown-once p u refl e, l, m)

@@ -36,7 +36,7 @@ pub extern "C" fn yaxo_cross_send(
     send(position, memory, message, word)
 }
 
-// Receives a frame: 32 bytes go in, and the 24 of 108 frames before come out. Answers 0, 1, 2, 3, 4 or 7.
+// Receives a frame: 32 bytes go in, and the 24 of 108 frames before come out. The map is that of the 32. Answers 0, 1, 2, 3, 4 or 7.
 #[no_mangle]
 pub extern "C" fn yaxo_cross_receive(
     position: usize,
@@ -44,8 +44,9 @@ pub extern "C" fn yaxo_cross_receive(
     held: &mut [u8],
     word: &[u8],
     message: &mut [u8],
+    map: &mut [u8],
 ) -> Received
-    ensures { λ r. ⌜ Receive position (now (memory .entry)) (now (held .entry)) (now (word .entry)) (now (message .entry)) r (now (memory .exit)) (now (held .exit)) (now (message .exit)) ⌝ }
+    ensures { λ r. ⌜ Receive position (now (memory .entry)) (now (held .entry)) (now (word .entry)) (now (message .entry)) (now (map .entry)) r (now (memory .exit)) (now (held .exit)) (now (message .exit)) (now (map .exit)) ⌝ }
 {
-    receive(position, memory, held, word, message)
+    receive(position, memory, held, word, message, map)
 }

@@ -102,16 +102,17 @@ pub extern "C" fn yaxo_frame_send(
     sent_number(d)
 }
 
-// Receives a frame into the lent area. Answers 0 to 5; under 1, 2 and 3 the area stays as it was, under 4 and 5 it is zeros.
+// Receives a frame into the lent area and map. Answers 0 to 5; under 1, 2 and 3 both stay as they were, under 4 and 5 they are zeros.
 #[no_mangle]
 pub extern "C" fn yaxo_frame_receive(
     framing: FrameSetting,
     slots: &[u8],
     marks: &[u8],
     area: &mut [u8],
+    map: &mut [u8],
 ) -> FrameAnswer
-    ensures { λ r. ⌜ FrameReceive framing (now (slots .entry)) (now (marks .entry)) (now (area .entry)) r (now (area .exit)) ⌝ }
+    ensures { λ r. ⌜ FrameReceive framing (now (slots .entry)) (now (marks .entry)) (now (area .entry)) (now (map .entry)) r (now (area .exit)) (now (map .exit)) ⌝ }
 {
-    let t = receive(framing_of(framing), slots, marks, area);
+    let t = receive(framing_of(framing), slots, marks, area, map);
     frame_answer(t, area)
 }

@@ -24,10 +24,18 @@ pub extern "C" fn yaxo_hear(
     slots: &[u8],
     marks: &[u8],
     area: &mut [u8],
+    map: &mut [u8],
 ) -> HeardAnswer
-    ensures { λ r. ⌜ Hear before framing (now (slots .entry)) (now (marks .entry)) (now (area .entry)) r (now (area .exit)) ⌝ }
+    ensures { λ r. ⌜ Hear before framing (now (slots .entry)) (now (marks .entry)) (now (area .entry)) (now (map .entry)) r (now (area .exit)) (now (map .exit)) ⌝ }
 {
-    let t = hear(record_of(before), framing_of(framing), slots, marks, area);
+    let t = hear(
+        record_of(before),
+        framing_of(framing),
+        slots,
+        marks,
+        area,
+        map,
+    );
     let next = record_seen(before, t.next);
     let answer = frame_answer(t.answer, area);
     HeardAnswer { next, answer }
@@ -41,10 +49,11 @@ pub extern "C" fn yaxo_hear_in(
     slots: &[u8],
     marks: &[u8],
     area: &mut [u8],
+    map: &mut [u8],
 ) -> FrameAnswer
-    ensures { λ r. ⌜ Hear (now (lent .entry)) framing (now (slots .entry)) (now (marks .entry)) (now (area .entry)) (bothSeen (now (lent .exit)) r) (now (area .exit)) ⌝ }
+    ensures { λ r. ⌜ Hear (now (lent .entry)) framing (now (slots .entry)) (now (marks .entry)) (now (area .entry)) (now (map .entry)) (bothSeen (now (lent .exit)) r) (now (area .exit)) (now (map .exit)) ⌝ }
 {
-    let t = yaxo_hear(*lent, framing, slots, marks, area);
+    let t = yaxo_hear(*lent, framing, slots, marks, area, map);
     *lent = t.next;
     t.answer
 }

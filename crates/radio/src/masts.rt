@@ -1,7 +1,7 @@
 // Two masts for C: what two copies of a frame are answered together, and the calls. The payload goes back as its place in the area of the mast
 // that is used.
 ghost use mathlib.Core.Path.{_≡_};
-ghost use Rattle.link.specs.Masts.{copyOf};
+ghost use Rattle.link.specs.Masts.{copyOf, leftOf};
 ghost use Rattle.radio.specs.Masts.{mastNumber, ofUsed, chosenSeen, bothMastsSeen, MastsReceive, MastsHear};
 use crate::frames::FrameAnswer;
 use crate::frames::FrameSetting;
@@ -75,27 +75,31 @@ fn chosen_answer<'a>(t: Chosen, first: &'a [u8], second: &'a [u8]) -> ChosenAnsw
     }
 }
 
-// Receives two copies of a frame, each into its area as `yaxo_frame_receive` does, and answers the better one.
+// Receives two copies of a frame, each into its area and map as `yaxo_frame_receive` does, and answers the better one.
 #[no_mangle]
 pub extern "C" fn yaxo_masts_receive(
     framing: FrameSetting,
     slots1: &[u8],
     marks1: &[u8],
     area1: &mut [u8],
+    map1: &mut [u8],
     slots2: &[u8],
     marks2: &[u8],
     area2: &mut [u8],
+    map2: &mut [u8],
 ) -> ChosenAnswer
-    ensures { λ r. ⌜ MastsReceive framing (copyOf (now (slots1 .entry)) (now (marks1 .entry)) (now (area1 .entry))) (copyOf (now (slots2 .entry)) (now (marks2 .entry)) (now (area2 .entry))) r (now (area1 .exit)) (now (area2 .exit)) ⌝ }
+    ensures { λ r. ⌜ MastsReceive framing (copyOf (now (slots1 .entry)) (now (marks1 .entry)) (now (area1 .entry)) (now (map1 .entry))) (copyOf (now (slots2 .entry)) (now (marks2 .entry)) (now (area2 .entry)) (now (map2 .entry))) r (leftOf (now (area1 .exit)) (now (map1 .exit))) (leftOf (now (area2 .exit)) (now (map2 .exit))) ⌝ }
 {
     let t = receive_masts(
         framing_of(framing),
         slots1,
         marks1,
         area1,
+        map1,
         slots2,
         marks2,
         area2,
+        map2,
     );
     chosen_answer(t, area1, area2)
 }
@@ -108,11 +112,13 @@ pub extern "C" fn yaxo_masts_hear(
     slots1: &[u8],
     marks1: &[u8],
     area1: &mut [u8],
+    map1: &mut [u8],
     slots2: &[u8],
     marks2: &[u8],
     area2: &mut [u8],
+    map2: &mut [u8],
 ) -> MastsAnswer
-    ensures { λ r. ⌜ MastsHear before framing (copyOf (now (slots1 .entry)) (now (marks1 .entry)) (now (area1 .entry))) (copyOf (now (slots2 .entry)) (now (marks2 .entry)) (now (area2 .entry))) r (now (area1 .exit)) (now (area2 .exit)) ⌝ }
+    ensures { λ r. ⌜ MastsHear before framing (copyOf (now (slots1 .entry)) (now (marks1 .entry)) (now (area1 .entry)) (now (map1 .entry))) (copyOf (now (slots2 .entry)) (now (marks2 .entry)) (now (area2 .entry)) (now (map2 .entry))) r (leftOf (now (area1 .exit)) (now (map1 .exit))) (leftOf (now (area2 .exit)) (now (map2 .exit))) ⌝ }
 {
     let t = hear_masts(
         record_of(before),
@@ -120,9 +126,11 @@ pub extern "C" fn yaxo_masts_hear(
         slots1,
         marks1,
         area1,
+        map1,
         slots2,
         marks2,
         area2,
+        map2,
     );
     let next = record_seen(before, t.next);
     let answer = chosen_answer(t.answer, area1, area2);
@@ -137,13 +145,26 @@ pub extern "C" fn yaxo_masts_hear_in(
     slots1: &[u8],
     marks1: &[u8],
     area1: &mut [u8],
+    map1: &mut [u8],
     slots2: &[u8],
     marks2: &[u8],
     area2: &mut [u8],
+    map2: &mut [u8],
 ) -> ChosenAnswer
-    ensures { λ r. ⌜ MastsHear (now (lent .entry)) framing (copyOf (now (slots1 .entry)) (now (marks1 .entry)) (now (area1 .entry))) (copyOf (now (slots2 .entry)) (now (marks2 .entry)) (now (area2 .entry))) (bothMastsSeen (now (lent .exit)) r) (now (area1 .exit)) (now (area2 .exit)) ⌝ }
+    ensures { λ r. ⌜ MastsHear (now (lent .entry)) framing (copyOf (now (slots1 .entry)) (now (marks1 .entry)) (now (area1 .entry)) (now (map1 .entry))) (copyOf (now (slots2 .entry)) (now (marks2 .entry)) (now (area2 .entry)) (now (map2 .entry))) (bothMastsSeen (now (lent .exit)) r) (leftOf (now (area1 .exit)) (now (map1 .exit))) (leftOf (now (area2 .exit)) (now (map2 .exit))) ⌝ }
 {
-    let t = yaxo_masts_hear(*lent, framing, slots1, marks1, area1, slots2, marks2, area2);
+    let t = yaxo_masts_hear(
+        *lent,
+        framing,
+        slots1,
+        marks1,
+        area1,
+        map1,
+        slots2,
+        marks2,
+        area2,
+        map2,
+    );
     *lent = t.next;
     t.answer
 }

@@ -67,12 +67,18 @@ pub extern "C" fn yaxo_word_encode(code: CodeSetting, message: &[u8], word: &mut
     encoded_number(d)
 }
 
-// Corrects a word where it stands. Answers 0 to 4; refused, the word stays as received.
+// Corrects a word where it stands, and maps where. Answers 0 to 4; refused, the word stays as received. The map stays under 1, 2 and 3, and is
+// zeros under 4.
 #[no_mangle]
-pub extern "C" fn yaxo_word_decode(code: CodeSetting, word: &mut [u8], marks: &[u8]) -> WordAnswer
-    ensures { λ r. ⌜ WordDecode code (now (word .entry)) (now (marks .entry)) r (now (word .exit)) ⌝ }
+pub extern "C" fn yaxo_word_decode(
+    code: CodeSetting,
+    word: &mut [u8],
+    marks: &[u8],
+    map: &mut [u8],
+) -> WordAnswer
+    ensures { λ r. ⌜ WordDecode code (now (word .entry)) (now (marks .entry)) (now (map .entry)) r (now (word .exit)) (now (map .exit)) ⌝ }
 {
-    let d = decode(code_of(code), word, marks);
+    let d = decode(code_of(code), word, marks, map);
     word_answer(d)
 }
 
@@ -83,9 +89,10 @@ pub extern "C" fn yaxo_word_decode_part(
     received: &[u8],
     marks: &[u8],
     part: &mut [u8],
+    map: &mut [u8],
 ) -> WordAnswer
-    ensures { λ r. ⌜ WordDecodePart code (now (received .entry)) (now (marks .entry)) (now (part .entry)) r (now (part .exit)) ⌝ }
+    ensures { λ r. ⌜ WordDecodePart code (now (received .entry)) (now (marks .entry)) (now (part .entry)) (now (map .entry)) r (now (part .exit)) (now (map .exit)) ⌝ }
 {
-    let d = decode_part(code_of(code), received, marks, part);
+    let d = decode_part(code_of(code), received, marks, part, map);
     word_answer(d)
 }

@@ -16,14 +16,14 @@ pub mod Decides
 unfoldable pub blank : ℕ → List ℕ
 blank n = replicate n 0
 
--- the frame as it is received: its slots unmarked, into a fresh area
+-- the frame as it is received: its slots unmarked, into a fresh area and a fresh map
 unfoldable pub answerTo : Framing → List ℕ → ReceiveOutcome
-answerTo f slots = receiving f slots (blank (slotCount f)) (blank (areaSize f))
+answerTo f slots = receiving f slots (blank (slotCount f)) (blank (areaSize f)) (blank (slotCount f))
 
 -- what is said of an answer
-unfoldable pub told : ℕ → ReceiveOutcome → List ℕ → List ℕ
-told depth o map = if eqb (o .number) 0 then frameText depth (o .sequence) (o .figures) (o .payload) map else refusal (o .number)
+unfoldable pub told : ℕ → ReceiveOutcome → List ℕ
+told depth o = if eqb (o .number) 0 then frameText depth (o .sequence) (o .figures) (o .payload) (o .map) else refusal (o .number)
 
 -- the whole text; under four bytes is 2 at once
 unfoldable pub spoken : List ℕ → List ℕ
-spoken input = if ltb (length input) 4 then refusal 2 else told (at input 0) (answerTo (framingOf input) (drop 4 input)) (blank (slotCount (framingOf input)))
+spoken input = if ltb (length input) 4 then refusal 2 else told (at input 0) (answerTo (framingOf input) (drop 4 input))

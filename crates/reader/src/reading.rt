@@ -2,7 +2,7 @@
 ghost use mathlib.Core.Path.{_≡_};
 ghost use Prim.Native.Nat.{_≤_};
 ghost use lib.ListN.{length};
-ghost use Rattle.frame.specs.Frame.{slotCount, receiving};
+ghost use Rattle.frame.specs.Frame.{receiving};
 ghost use Rattle.frame.specs.Frame.Limits.{FrameAllowed};
 ghost use Rattle.text.specs.Put.{Put};
 ghost use Rattle.reader.specs.Promises.{Reports};
@@ -31,9 +31,9 @@ fn put_answer(
     text: &mut [u8],
 ) -> usize
     requires { ⌜ (f .depth ≤ 16) × (length (now area) ≤ 4080) × (length (now map) ≤ 4080) × (30000 ≤ length (now text)) ⌝ }
-    ensures { λ r. ⌜ Put (told (f .depth) (receiving f (now (slots .entry)) (now (marks .entry)) (now (area .entry))) (now (map .entry))) (now (text .entry)) 0 r (now (text .exit)) ⌝ }
+    ensures { λ r. ⌜ Put (told (f .depth) (receiving f (now (slots .entry)) (now (marks .entry)) (now (area .entry)) (now (map .entry)))) (now (text .entry)) 0 r (now (text .exit)) ⌝ }
 {
-    let answer = link::receive(f, slots, marks, area);
+    let answer = link::receive(f, slots, marks, area, map);
     let verdict = answer.verdict;
     let number = number_of(verdict);
     if number != 0 {
@@ -53,7 +53,7 @@ fn put_answer(
 // The same of a frame without marks, in work space of its own.
 fn put_unmarked(f: Framing, slots: &[u8], text: &mut [u8]) -> usize
     requires { ⌜ FrameAllowed f × (30000 ≤ length (now text)) ⌝ }
-    ensures { λ r. ⌜ Put (told (f .depth) (answerTo f (now (slots .entry))) (blank (slotCount f))) (now (text .entry)) 0 r (now (text .exit)) ⌝ }
+    ensures { λ r. ⌜ Put (told (f .depth) (answerTo f (now (slots .entry)))) (now (text .entry)) 0 r (now (text .exit)) ⌝ }
 {
     let marks = work_space();
     let mut area = work_space();

@@ -25,13 +25,13 @@ use Rattle.reader.specs.Spoken.{blank, answerTo, told, spoken}
 
 -- ---- what is said of an answer
 
-module _ (depth : ℕ) (r : Received) (area : List ℕ) (o : ReceiveOutcome) (e : receiveOutcome r area ≡ o) (k : ℕ) (n : k ≡ numberOf (r .verdict)) (map : List ℕ) {text after : List ℕ} {at last : ℕ} where
-  pub told-refused : (k ≡ 0 → ⊥) → Put (refusal k) text at last after → Put (told depth o map) text at last after
+module _ (depth : ℕ) (r : Received) (area map : List ℕ) (o : ReceiveOutcome) (e : receiveOutcome r area map ≡ o) (k : ℕ) (n : k ≡ numberOf (r .verdict)) {text after : List ℕ} {at last : ℕ} where
+  pub told-refused : (k ≡ 0 → ⊥) → Put (refusal k) text at last after → Put (told depth o) text at last after
   unfolding told
   told-refused z p = rw (← e, ← n, ne-eqb k 0 z) p
 
   pub told-accepted : k ≡ 0 → (payload : List ℕ) → payload ≡ payloadOf r area → Put (frameText depth (r .sequence) (r .figures) payload map) text at last after
-      → Put (told depth o map) text at last after
+      → Put (told depth o) text at last after
   unfolding told
   told-accepted z payload h p = rw (← e, ← n, z, ← h) p
 
@@ -54,7 +54,7 @@ module _ (input : List ℕ) where
 
   module _ (long : 4 ≤ length input) where
     -- the code's slots are the part from 4 to the end
-    pub spoken-answer : told (at input 0) (answerTo (framingOf input) (take (length input - 4) (drop 4 input))) (blank (slotCount (framingOf input))) ≡ spoken input
+    pub spoken-answer : told (at input 0) (answerTo (framingOf input) (take (length input - 4) (drop 4 input))) ≡ spoken input
     unfolding spoken
     spoken-answer = rw (le-ltb (length input) 4 long, take-all (length input - 4) (drop 4 input) (simp length-drop (omega arith)))
 
@@ -62,8 +62,8 @@ module _ (input : List ℕ) where
     unfolding spoken answerTo told
     spoken-setting a =
         let f = framingOf input in
-        let refused = receive-setting f (drop 4 input) (blank (slotCount f)) (blank (areaSize f)) a in
-        rw (le-ltb (length input) 4 long, receiving-refused f (drop 4 input) (blank (slotCount f)) (blank (areaSize f)) 1 refused (omega arith))
+        let refused = receive-setting f (drop 4 input) (blank (slotCount f)) (blank (areaSize f)) (blank (slotCount f)) a in
+        rw (le-ltb (length input) 4 long, receiving-refused f (drop 4 input) (blank (slotCount f)) (blank (areaSize f)) (blank (slotCount f)) 1 refused (omega arith))
 
 -- ---- the work space
 
@@ -78,9 +78,9 @@ blank-front (suc n) (suc k) l = ap (λ (z : List ℕ). 0 ∷ z) (blank-front n k
 pub part-size : (n : ℕ) (w : List ℕ) → n ≤ 4080 → length w ≡ 4080 → n ≡ length (take n w)
 part-size n w l e = sym (length-take-le n w (omega arith))
 
--- the work space's parts are the marks and the area that are meant
-pub unmarked : (f : Framing) (slots w₁ w₂ w₃ : List ℕ) (depth : ℕ) → FrameAllowed f → w₁ ≡ blank 4080 → w₂ ≡ blank 4080 → w₃ ≡ blank 4080
-    → told depth (receiving f slots (take (slotCount f) w₁) (take (areaSize f) w₂)) (take (slotCount f) w₃) ≡ told depth (answerTo f slots) (blank (slotCount f))
+-- the work space's parts are the marks, the area and the map that are meant
+pub unmarked : (f : Framing) (slots w₁ w₂ w₃ : List ℕ) → FrameAllowed f → w₁ ≡ blank 4080 → w₂ ≡ blank 4080 → w₃ ≡ blank 4080
+    → receiving f slots (take (slotCount f) w₁) (take (areaSize f) w₂) (take (slotCount f) w₃) ≡ answerTo f slots
 unfolding answerTo
-unmarked f slots w₁ w₂ w₃ depth l e g h =
+unmarked f slots w₁ w₂ w₃ l e g h =
     rw (e, g, h, blank-front (slotCount f) 4080 (slots-few f l), blank-front (areaSize f) 4080 (area-few f l))

@@ -22,8 +22,8 @@ spoken-total : (input : List ℕ) → 4 ≤ length input → allowedFrame (frami
 unfolding spoken answerTo told
 spoken-total input long a n =
     let f = framingOf input in
-    let refused = receive-slots f (drop 4 input) (blank (slotCount f)) (blank (areaSize f)) a n in
-    rw (le-ltb (length input) 4 long, receiving-refused f (drop 4 input) (blank (slotCount f)) (blank (areaSize f)) 2 refused (omega arith))
+    let refused = receive-slots f (drop 4 input) (blank (slotCount f)) (blank (areaSize f)) (blank (slotCount f)) a n in
+    rw (le-ltb (length input) 4 long, receiving-refused f (drop 4 input) (blank (slotCount f)) (blank (areaSize f)) (blank (slotCount f)) 2 refused (omega arith))
 
 module _ (input : List ℕ) (long : 4 ≤ length input) where
   -- a setting that is refused

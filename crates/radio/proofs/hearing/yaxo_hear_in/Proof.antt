@@ -37,5 +37,5 @@ yaxo-hear-in-spec 𝓤 H 𝓜 𝓖 𝓡 =
     let 𝓣 = tables 𝓤 H 𝓜 𝓡 code.env in
     entered 𝓤 H (tripleOf 𝓤 H (𝓖 .A) f.signature (f.spec 𝓤 H (𝓖 .A) (𝓜 .mem) (𝓡 .run))) (𝓣 .C) (𝓣 .Λ) key.name code.function (code.unfolded 𝓤 H 𝓜 𝓡)
     (meets lent framing answer (λ x w. refl) (K.the-type .name) (K.the-type .D) (λ t. t .next) (λ t. t .answer) (K.the-type .to-one)
-    (λ h s slots marks area a next left. Hear h s slots marks area (bothSeen next a) left) 𝓤 H (𝓖 .A) (givenOf 𝓤 H 𝓜 𝓖) (tablesOf 𝓤 H 𝓜 𝓣) g-def.name
+    (λ h s slots marks area map a next left left-map. Hear h s slots marks area map (bothSeen next a) left left-map) 𝓤 H (𝓖 .A) (givenOf 𝓤 H 𝓜 𝓖) (tablesOf 𝓤 H 𝓜 𝓣) g-def.name
     (cited 𝓤 H (tripleOf 𝓤 H (𝓖 .A) g.signature (g.spec 𝓤 H (𝓖 .A) (𝓜 .mem) (𝓡 .run))) 𝓜 𝓡 code.env g-def.name g-def.routine code.calls-radio·hearing·yaxo-hear (g-thm.met 𝓤 H 𝓜 𝓖 𝓡)))

@@ -21,21 +21,20 @@ same-length c = search needs
 same-length-2 : tie.Need-same-length-2
 same-length-2 c = search needs
 
+same-length-3 : tie.Need-same-length-3
+same-length-3 c = search needs
+
 returns : tie.Need-returns
-returns c =
-    let written = c .before .before in
-    let refused = written .before .before in
-    let number = refused .before in
-    told-refused _ _ _ _ (number .before .before .before .receive .ensures .outcome) _ (number .number-of .ensures) _ (refused .if1 .taken) (written .put-refusal .ensures)
+returns c = told-refused _ _ _ _ _ (c .before .before .before .before .before .before .before .before .before .before .receive .ensures .outcome) _ (c .before .before .before .before .before .number-of .ensures) (c .before .before .before .before .if1 .taken) (c .before .before .put-refusal .ensures)
 
 payload-requires : tie.Need-payload-requires
 payload-requires c κs = search needs
 
 put-frame-requires : tie.Need-put-frame-requires
-put-frame-requires c κs = omega (arith, payload-fits _ _ _ (c .before .before .payload .ensures .outcome))
-
-same-length-3 : tie.Need-same-length-3
-same-length-3 c = search needs
+put-frame-requires c κs =
+    let kept = c .before .before .before .before .before .before .before .before .before .before .before .receive .kept in
+    let pre = c .before .before .before .before .before .before .before .before .before .before .before .before .before .before .before .before .before .before .before .pre in
+    omega (arith, payload-fits _ _ _ (c .before .before .payload .ensures .outcome), kept .1 .1 .1 .0, kept .1 .1 .1 .1 .0, pre .0, pre .1, pre .2, pre .3)
 
 same-length-4 : tie.Need-same-length-4
 same-length-4 c = search needs
@@ -43,13 +42,12 @@ same-length-4 c = search needs
 same-length-5 : tie.Need-same-length-5
 same-length-5 c = search needs
 
+same-length-6 : tie.Need-same-length-6
+same-length-6 c = search needs
+
 returns-2 : tie.Need-returns-2
 returns-2 c =
-    let written = c .before .before in
-    let part = written .before .before .before in
-    let accepted = part .before .before .before in
-    let number = accepted .before in
-    told-accepted _ _ _ _ (number .before .before .before .receive .ensures .outcome) _ (number .number-of .ensures) _ (accepted .if1 .left) _ (part .payload .ensures .outcome) (written .put-frame .ensures)
+    told-accepted _ _ _ _ _ (c .before .before .before .before .before .before .before .before .before .before .before .before .before .before .receive .ensures .outcome) _ (c .before .before .before .before .before .before .before .before .before .number-of .ensures) (c .before .before .before .before .before .before .before .before .if1 .left) _ (c .before .before .before .before .before .payload .ensures .outcome) (c .before .before .put-frame .ensures)
 
 pub put-answer-spec : {M : Type 1} → statement M
 put-answer-spec =
@@ -60,10 +58,11 @@ put-answer-spec =
     put-refusal-requires
     same-length
     same-length-2
+    same-length-3
     returns
     payload-requires
     put-frame-requires
-    same-length-3
     same-length-4
     same-length-5
+    same-length-6
     returns-2)

@@ -67,7 +67,7 @@ returns c =
     let written = c .before .before .before .before in
     let spaces = written .before .before .before .before .before .before .before .before in
     let few = spaces .before .before .before .before .before .pre .0 in
-    rw (unmarked _ _ _ _ _ _ few (spaces .before .before .work-space .ensures .0) (spaces .before .work-space2 .ensures .0) (spaces .work-space3 .ensures .0)) at (written .put-answer .ensures)
+    rw (unmarked _ _ _ _ _ few (spaces .before .before .work-space .ensures .0) (spaces .before .work-space2 .ensures .0) (spaces .work-space3 .ensures .0)) at (written .put-answer .ensures)
 
 pub put-unmarked-spec : {M : Type 1} → statement M
 put-unmarked-spec =
