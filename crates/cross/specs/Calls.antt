@@ -11,9 +11,8 @@ use Rattle.algebra.specs.Tests.{at, below, below-same}
 use Rattle.algebra.specs.Refusal.{ifZero}
 use Rattle.algebra.specs.Lists.{tabulated}
 use Rattle.rings.specs.Run.{run-size, run-below}
-use Rattle.word.specs.Answers.{DecodeOutcome, refused}
-use Rattle.cross.specs.Cross.{outerWord, innerWord, turned, after, opened, passedOn, markOf, marksOf, closed, settled, received}
-use Rattle.cross.specs.Promises.{ready, two, three, four, FreshSender, FreshReceiver, Send, Receive}
+use Rattle.cross.specs.Cross.{outerWord, innerWord, turned, after, opened, passedOn, markOf, marksOf, mapOf, FrameOutcome, withoutFigures, closed, settled, received}
+use Rattle.cross.specs.Promises.{ready, two, three, five, FreshSender, FreshReceiver, Send, Receive}
 use Rattle.cross.specs.Checks.{size-done, SendFine, send-done, fresh-done, ReceiveFine, receive-done}
 use Rattle.cross.specs.Codes.{settled-early, settled-late}
 use Rattle.cross.specs.Positions.{positionAfter, reachable, early-frame, late-frame}
@@ -107,23 +106,26 @@ module _ (many : ℕ) (messages words : ℕ → List ℕ) (s : SenderCalls many 
 
 -- ---- the receiver
 
--- calls from a fresh receiver: frame F takes word F, any 32 bytes, and leaves the message bytes with an answer
+-- calls from a fresh receiver: frame F takes word F, any 32 bytes, and leaves the message bytes and a map with an answer
 pub record ReceiverCalls (many : ℕ) (words : ℕ → List ℕ) (answers : ℕ → Received) (messages : ℕ → List ℕ) : Type 0 where
   pub lent : List ℕ
   pub lent-size : length lent ≡ 1512
   pub lent-marks : List ℕ
   pub marks-size : length lent-marks ≡ 1512
   pub start : Ready
-  -- position and memories before frame F, and the message bytes lent to it
+  -- position and memories before frame F, the message bytes and the map lent to it, and the map that it leaves
   pub position : ℕ → ℕ
   pub memory : ℕ → List ℕ
   pub held : ℕ → List ℕ
   pub given : ℕ → List ℕ
   pub given-size : (F : ℕ) → F < many → length (given F) ≡ 24
+  pub lent-map : ℕ → List ℕ
+  pub map-size : (F : ℕ) → F < many → length (lent-map F) ≡ 32
+  pub maps : ℕ → List ℕ
   pub word-size : (F : ℕ) → F < many → length (words F) ≡ 32
   pub fresh : FreshReceiver lent lent-marks start (memory 0) (held 0)
   pub first : position 0 ≡ start .position
-  pub frame : (F : ℕ) → F < many → Receive (position F) (memory F) (held F) (words F) (given F) (answers F) (memory (suc F)) (held (suc F)) (messages F)
+  pub frame : (F : ℕ) → F < many → Receive (position F) (memory F) (held F) (words F) (given F) (lent-map F) (answers F) (memory (suc F)) (held (suc F)) (messages F) (maps F)
   pub next : (F : ℕ) → F < many → position (suc F) ≡ answers F .position
 
 -- the bytes of the outer word that is due with frame F, and their marks
@@ -176,42 +178,49 @@ module _ (many : ℕ) (words : ℕ → List ℕ) (answers : ℕ → Received) (m
         held = ms ∙ sym (memory-fresh true 108 1 _);
       }
 
-  receive-fine : (F : ℕ) → F < many → ReceiverAt F → ReceiveFine (r .position F) (length (r .memory F)) (r .held F) (length (words F)) (length (r .given F))
+  receive-fine : (F : ℕ) → F < many → ReceiverAt F → ReceiveFine (r .position F) (length (r .memory F)) (r .held F) (length (words F)) (length (r .given F)) (length (r .lent-map F))
   receive-fine F h a = record {
     position = rw (a .position) (reachable 108 F);
     memory-size = ap length (a .memory) ∙ memory-size true 108 0 _ F;
     held-size = ap length (a .held) ∙ memory-size true 108 1 _ F;
     word-size = r .word-size F h;
     message-size = r .given-size F h;
+    map-size = r .map-size F h;
     fit = rw (a .held) (memory-below true 108 1 _ (lit< tt) (λ G. marks-of-small (words G)) F);
   }
 
   -- what frame F answers and leaves
-  abbrev answeredAt : ℕ → DecodeOutcome
+  abbrev answeredAt : ℕ → FrameOutcome
   answeredAt F = settled (positionAfter 108 F) (dueBytes words F) (dueMarks words F) (r .given F)
 
   taken : (F : ℕ) → F < many → ReceiverAt F
       → (answers F ≡ record { answer = answeredAt F .number; figures = answeredAt F .figures; position = after 108 (positionAfter 108 F) })
-      × (r .memory (suc F) ≡ heldBytes (suc F)) × (r .held (suc F) ≡ heldMarks (suc F)) × (messages F ≡ answeredAt F .word)
+      × (r .memory (suc F) ≡ heldBytes (suc F)) × (r .held (suc F) ≡ heldMarks (suc F)) × (messages F ≡ answeredAt F .message) × (r .maps F ≡ mapOf (words F))
   unfolding memoryAfter
-  taken F h a = four (rw (receive-done _ _ _ _ _ (receive-fine F h a), a .position, a .memory, a .held) at (r .frame F h .outcome))
+  taken F h a = five (rw (receive-done _ _ _ _ _ _ (receive-fine F h a), a .position, a .memory, a .held) at (r .frame F h .outcome))
 
   receiver-at : (F : ℕ) → F ≤ many → ReceiverAt F
   unfolding positionAfter
   receiver-at zero h = receiver-fresh
   receiver-at (suc F) h =
-      let (a, m, ms, _) = taken F (omega arith) (receiver-at F (omega arith)) in
+      let (a, m, ms, _, _) = taken F (omega arith) (receiver-at F (omega arith)) in
       record { position = r .next F (omega arith) ∙ ap (λ (z : Received). z .position) a; memory = m; held = ms }
 
   answered : (F : ℕ) → F < many → received (answers F) (messages F) ≡ answeredAt F
   answered F h =
-      let (a, _, _, w) = taken F h (receiver-at F (omega arith)) in
+      let (a, _, _, w, _) = taken F h (receiver-at F (omega arith)) in
       rw (a, w)
 
   -- The first 108 frames are answered 7, whatever their words are, and leave the message bytes.
-  pub not-yet : (F : ℕ) → F < many → F < 108 → received (answers F) (messages F) ≡ refused 7 (r .given F)
+  pub not-yet : (F : ℕ) → F < many → F < 108 → received (answers F) (messages F) ≡ withoutFigures 7 (r .given F)
   not-yet F h l = answered F h ∙ sym (settled-early _ _ _ _ (early-frame F l))
 
   -- Every later frame is answered what becomes of the outer word that is due.
   pub receives : (F : ℕ) → F < many → 108 ≤ F → received (answers F) (messages F) ≡ closed (dueBytes words F) (dueMarks words F) (r .given F)
   receives F h l = answered F h ∙ sym (settled-late _ _ _ _ (late-frame F l))
+
+  -- Every frame leaves the map of its own inner word, also while it is answered 7 and where the outer word is refused.
+  pub mapped : (F : ℕ) → F < many → r .maps F ≡ mapOf (words F)
+  mapped F h =
+      let (_, _, _, _, u) = taken F h (receiver-at F (omega arith)) in
+      u

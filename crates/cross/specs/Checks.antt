@@ -12,8 +12,8 @@ use lib.ListN.{length, replicate}
 use Rattle.algebra.specs.Sets.{put-elim}
 use Rattle.algebra.specs.Tests.{below}
 use Rattle.algebra.specs.Refusal.{need, ifZero, need-yes, need-zero, first-none, first-zero, passes}
-use Rattle.word.specs.Answers.{DecodeOutcome, noFigures, refused, decodingPart}
-use Rattle.cross.specs.Cross.{outerCode, cycle, closed, settled, sizeRefusal, sendRefusal, freshRefusal, receiveRefusal}
+use Rattle.word.specs.Answers.{noFigures, decodingPart}
+use Rattle.cross.specs.Cross.{outerCode, cycle, FrameOutcome, closed, settled, sizeRefusal, sendRefusal, freshRefusal, receiveRefusal}
 use Rattle.cross.specs.Promises.{Send, Receive}
 use Rattle.cross.specs.declared.position.Ready.{Ready}
 use Rattle.cross.specs.declared.position.Received.{Received}
@@ -38,12 +38,13 @@ unfolding sendRefusal
 send-done p memory message word f =
     sym (need-yes _ _ _ 0 (f .position) (need-yes _ _ _ 0 (f .memory-size) (need-yes _ _ _ 0 (f .message-size) (need-yes _ _ _ 0 (f .word-size) refl))))
 
-pub record ReceiveFine (p memory : ℕ) (held : List ℕ) (word message : ℕ) : Type 0 where
+pub record ReceiveFine (p memory : ℕ) (held : List ℕ) (word message map : ℕ) : Type 0 where
   pub position : p < 108 + cycle
   pub memory-size : memory ≡ 1512
   pub held-size : length held ≡ 1512
   pub word-size : word ≡ 32
   pub message-size : message ≡ 24
+  pub map-size : map ≡ 32
   pub fit : T (below 2 held)
 
 pub size-done : (memory : ℕ) → memory ≡ 1512 → sizeRefusal memory ≡ 0
@@ -60,23 +61,24 @@ pub fresh-done : (memory held : ℕ) → memory ≡ 1512 → held ≡ 1512 → f
 unfolding freshRefusal
 fresh-done memory held a b = sym (need-yes _ _ _ 0 a (need-yes _ _ _ 0 b refl))
 
-pub receive-fine : (p memory : ℕ) (held : List ℕ) (word message k : ℕ) → k ≡ receiveRefusal p memory held word message → k ≡ 0 → ReceiveFine p memory held word message
+pub receive-fine : (p memory : ℕ) (held : List ℕ) (word message map k : ℕ) → k ≡ receiveRefusal p memory held word message map → k ≡ 0 → ReceiveFine p memory held word message map
 unfolding receiveRefusal
-receive-fine p memory held word message k e z =
+receive-fine p memory held word message map k e z =
     let (a, e₁) = need-zero (decLt p (108 + cycle)) 1 _ (omega arith) (sym e ∙ z) in
     let (b, e₂) = first-zero (freshRefusal memory (length held)) _ e₁ in
     let (c, e₃) = need-zero (ℕ-discrete word 32) 2 _ (omega arith) e₂ in
     let (d, e₄) = need-zero (ℕ-discrete message 24) 2 _ (omega arith) e₃ in
-    let (f, _) = need-zero (passes (below 2 held)) 3 _ (omega arith) e₄ in
+    let (l, e₅) = need-zero (ℕ-discrete map 32) 2 _ (omega arith) e₄ in
+    let (f, _) = need-zero (passes (below 2 held)) 3 _ (omega arith) e₅ in
     let (s, t) = fresh-fine memory (length held) b in
-    record { position = a; memory-size = s; held-size = t; word-size = c; message-size = d; fit = f }
+    record { position = a; memory-size = s; held-size = t; word-size = c; message-size = d; map-size = l; fit = f }
 
-pub receive-done : (p memory : ℕ) (held : List ℕ) (word message : ℕ) → ReceiveFine p memory held word message → receiveRefusal p memory held word message ≡ 0
+pub receive-done : (p memory : ℕ) (held : List ℕ) (word message map : ℕ) → ReceiveFine p memory held word message map → receiveRefusal p memory held word message map ≡ 0
 unfolding receiveRefusal
-receive-done p memory held word message f =
+receive-done p memory held word message map f =
     sym (need-yes _ _ _ 0 (f .position)
     (first-none _ _ 0 (fresh-done memory (length held) (f .memory-size) (f .held-size))
-    (need-yes _ _ _ 0 (f .word-size) (need-yes _ _ _ 0 (f .message-size) (need-yes _ _ _ 0 (f .fit) refl)))))
+    (need-yes _ _ _ 0 (f .word-size) (need-yes _ _ _ 0 (f .message-size) (need-yes _ _ _ 0 (f .map-size) (need-yes _ _ _ 0 (f .fit) refl))))))
 
 -- ---- which numbers are answered
 
@@ -102,27 +104,21 @@ send-numbers p m message word r left out c =
     subst Low (sym (c .outcome)) (either (sendRefusal p (length m) (length message) (length word)) _ _ Low (omega arith) (refusal-most p (length m) (length message) (length word)))
 
 -- the receiver's figures are 0 under any answer but 0
-abbrev Plain : DecodeOutcome → Type 0
+abbrev Plain : FrameOutcome → Type 0
 Plain o = o .number ≢ 0 → o .figures ≡ noFigures
-
-done-or-plain : (k : ℕ) (o x : DecodeOutcome) → o .number ≡ k → Plain x → Plain (ifZero k o x)
-done-or-plain zero o x e p = λ h. absurd (h e)
-done-or-plain (suc k) o x e p = p
 
 closed-plain : (bytes marks message : List ℕ) → Plain (closed bytes marks message)
 unfolding closed
-closed-plain bytes marks message =
-    let o = decodingPart outerCode bytes marks message in
-    done-or-plain (o .number) o (refused 4 (replicate 24 0)) refl (λ _. refl)
+closed-plain bytes marks message = either (decodingPart outerCode bytes marks message (replicate 28 0) .number) _ _ Plain (λ h. absurd (h refl)) (λ _. refl)
 
 settled-plain : (p : ℕ) (bytes marks message : List ℕ) → Plain (settled p bytes marks message)
 unfolding settled
 settled-plain p bytes marks message = put-elim _ _ _ Plain (λ _ _. refl) (λ _. closed-plain bytes marks message)
 
-abbrev Bare : Received × List ℕ × List ℕ × List ℕ → Type 0
+abbrev Bare : Received × List ℕ × List ℕ × List ℕ × List ℕ → Type 0
 Bare z = z .0 .answer ≢ 0 → z .0 .figures ≡ noFigures
 
-pub receive-figures : (p : ℕ) (m ms word message : List ℕ) (r : Received) (left leftMarks out : List ℕ) → Receive p m ms word message r left leftMarks out
+pub receive-figures : (p : ℕ) (m ms word message map : List ℕ) (r : Received) (left leftMarks out leftMap : List ℕ) → Receive p m ms word message map r left leftMarks out leftMap
     → r .answer ≢ 0 → r .figures ≡ noFigures
-receive-figures p m ms word message r left leftMarks out c =
-    subst Bare (sym (c .outcome)) (either (receiveRefusal p (length m) ms (length word) (length message)) _ _ Bare (settled-plain p _ _ message) (λ _. refl))
+receive-figures p m ms word message map r left leftMarks out leftMap c =
+    subst Bare (sym (c .outcome)) (either (receiveRefusal p (length m) ms (length word) (length message) (length map)) _ _ Bare (settled-plain p _ _ message) (λ _. refl))

@@ -11,8 +11,9 @@ use Rattle.algebra.specs.Lists.{tabulate}
 use Rattle.algebra.specs.Refusal.{need, first, ifZero, passes}
 use Rattle.rings.specs.Rings.{order}
 use Rattle.rings.specs.Run.{Ran, run}
-use Rattle.word.specs.Answers.{DecodeOutcome, refused, encoding, decodingPart}
+use Rattle.word.specs.Answers.{DecodeOutcome, noFigures, encoding, decodingPart}
 use Rattle.word.specs.declared.Setting.{Setting}
+use Rattle.word.specs.declared.Figures.{Figures}
 use Rattle.cross.specs.declared.position.Received.{Received}
 
 -- ---- the two codes: symbols are bytes, r = 4, b = 0
@@ -57,8 +58,9 @@ after once p = put (ℕ-discrete (p + 1) (once + cycle)) once (p + 1)
 
 -- ---- the inner word at the receiver: decoded with no marks into its own first 28 bytes, which stay as received where it is refused
 
+-- with a map of zeros, as any other that is lent gives the same
 unfoldable pub opened : List ℕ → DecodeOutcome
-opened word = decodingPart innerCode word (replicate 32 0) (take 28 word)
+opened word = decodingPart innerCode word (replicate 32 0) (take 28 word) (replicate 32 0)
 
 -- the bytes that go on, and the mark of each: 1 where the word is refused
 abbrev pub passedOn : List ℕ → List ℕ
@@ -70,21 +72,34 @@ markOf word = ifZero (opened word .number) 0 1
 abbrev pub marksOf : List ℕ → List ℕ
 marksOf word = replicate 28 (markOf word)
 
--- ---- the outer word at the receiver: its message and figures, or 4 and zeros
+-- the map of the frame, a mark for each of the 32 places: 1 where the word was changed, and all 0 where it is refused (document 02, No. 6)
+abbrev pub mapOf : List ℕ → List ℕ
+mapOf word = opened word .map
 
-abbrev pub orZeros : DecodeOutcome → DecodeOutcome
-orZeros o = ifZero (o .number) o (refused 4 (replicate 24 0))
+-- ---- the outer word at the receiver: its message and figures, or 4 and zeros; its own map is not told
 
-unfoldable pub closed : List ℕ → List ℕ → List ℕ → DecodeOutcome
-closed bytes marks message = orZeros (decodingPart outerCode bytes marks message)
+-- what a frame is answered, with the message bytes that it leaves
+pub record FrameOutcome : Type 0 where
+  pub number : ℕ
+  pub figures : Figures
+  pub message : List ℕ
+
+abbrev pub withoutFigures : ℕ → List ℕ → FrameOutcome
+withoutFigures k message = record { number = k; figures = noFigures; message = message }
+
+abbrev pub orZeros : DecodeOutcome → FrameOutcome
+orZeros o = ifZero (o .number) (record { number = 0; figures = o .figures; message = o .word }) (withoutFigures 4 (replicate 24 0))
+
+unfoldable pub closed : List ℕ → List ℕ → List ℕ → FrameOutcome
+closed bytes marks message = orZeros (decodingPart outerCode bytes marks message (replicate 28 0))
 
 -- what a frame is answered that is taken at position p: 7 for the first 108, whatever their words are
-unfoldable pub settled : ℕ → List ℕ → List ℕ → List ℕ → DecodeOutcome
-settled p bytes marks message = put (decLt p 108) (refused 7 message) (closed bytes marks message)
+unfoldable pub settled : ℕ → List ℕ → List ℕ → List ℕ → FrameOutcome
+settled p bytes marks message = put (decLt p 108) (withoutFigures 7 message) (closed bytes marks message)
 
 -- an answer of the code in this paper's terms, with the message bytes it leaves
-abbrev pub received : Received → List ℕ → DecodeOutcome
-received r message = record { number = r .answer; figures = r .figures; word = message }
+abbrev pub received : Received → List ℕ → FrameOutcome
+received r message = record { number = r .answer; figures = r .figures; message = message }
 
 -- ---- the refusals, in the paper's order: the position 1, each length 2, a mark above 1 in the memory of marks 3
 
@@ -98,7 +113,8 @@ sizeRefusal memory = need (ℕ-discrete memory 1512) 2 0
 unfoldable pub freshRefusal : ℕ → ℕ → ℕ
 freshRefusal memory held = need (ℕ-discrete memory 1512) 2 (need (ℕ-discrete held 1512) 2 0)
 
-unfoldable pub receiveRefusal : ℕ → ℕ → List ℕ → ℕ → ℕ → ℕ
-receiveRefusal p memory held word message =
+unfoldable pub receiveRefusal : ℕ → ℕ → List ℕ → ℕ → ℕ → ℕ → ℕ
+receiveRefusal p memory held word message map =
     need (decLt p (108 + cycle)) 1
-    (first (freshRefusal memory (length held)) (need (ℕ-discrete word 32) 2 (need (ℕ-discrete message 24) 2 (need (passes (below 2 held)) 3 0))))
+    (first (freshRefusal memory (length held))
+    (need (ℕ-discrete word 32) 2 (need (ℕ-discrete message 24) 2 (need (ℕ-discrete map 32) 2 (need (passes (below 2 held)) 3 0)))))

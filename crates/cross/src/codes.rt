@@ -4,7 +4,7 @@ ghost use Prim.Native.Nat.{_+_, _<_};
 ghost use lib.ListN.{length, replicate};
 ghost use Rattle.algebra.specs.Refusal.{ifZero};
 ghost use Rattle.word.specs.Answers.{numberOf};
-ghost use Rattle.cross.specs.Cross.{outerCode, innerCode, cycle, after, passedOn, markOf, received, settled};
+ghost use Rattle.cross.specs.Cross.{outerCode, innerCode, cycle, after, passedOn, markOf, mapOf, received, settled};
 use crate::position::Received;
 use crate::position::next;
 use buffers::copy;
@@ -40,7 +40,7 @@ pub fn inner_code() -> Setting
     }
 }
 
-// The 28 bytes of a frame, all of one value. A call of its own keeps the array out of its callers' proofs.
+// The 28 bytes of an outer word, all of one value. A call of its own keeps the array out of its callers' proofs.
 pub fn frame_of(value: u8) -> [u8; 28]
     ensures { λ r. ⌜ r ≡ replicate 28 value ⌝ }
 {
@@ -68,18 +68,20 @@ fn mark_of(d: Decoded) -> u8
 }
 
 // The 28 bytes that an inner word passes on, and the mark of each: corrected and 0, or where the word is refused as received and 1.
-// Its check bytes are dropped.
-pub fn open_inner(word: &[u8], bytes: &mut [u8]) -> u8
-    requires { ⌜ (length (now word) ≡ 32) × (length (now bytes) ≡ 28) ⌝ }
-    ensures { λ r. ⌜ (r ≡ markOf (now (word .entry))) × (now (bytes .exit) ≡ passedOn (now (word .entry))) ⌝ }
+// Its check bytes are dropped. The map gets 1 at each of the 32 places where the word was changed, and 0 elsewhere; it is all 0 where the
+// word is refused.
+pub fn open_inner(word: &[u8], bytes: &mut [u8], map: &mut [u8]) -> u8
+    requires { ⌜ (length (now word) ≡ 32) × (length (now bytes) ≡ 28) × (length (now map) ≡ 32) ⌝ }
+    ensures { λ r. ⌜ (r ≡ markOf (now (word .entry))) × (now (bytes .exit) ≡ passedOn (now (word .entry))) × (now (map .exit) ≡ mapOf (now (word .entry))) ⌝ }
 {
     copy(&word[0..28], bytes);
     let marks = no_marks();
-    mark_of(decode_part(inner_code(), word, &marks, bytes))
+    mark_of(decode_part(inner_code(), word, &marks, bytes, map))
 }
 
 // What becomes of the outer word that is due at a position: 7 for the first 108 frames, and the message bytes stay as they were; 4 and zeros
 // where the word is refused; else its message and figures. The frame is taken all the same, so the position goes on.
+// The outer word's own map goes no further: its bytes came with 28 frames, and no place of it is a place of this frame.
 pub fn settle(position: usize, bytes: &[u8], marks: &[u8], message: &mut [u8]) -> Received
     requires { ⌜ (position < 108 + cycle) × (length (now message) ≡ 24) ⌝ }
     ensures { λ r. ⌜ (received r (now (message .exit)) ≡ settled position (now (bytes .entry)) (now (marks .entry)) (now (message .entry))) × (r .position ≡ after 108 position) ⌝ }
@@ -92,7 +94,8 @@ pub fn settle(position: usize, bytes: &[u8], marks: &[u8], message: &mut [u8]) -
             position: later,
         };
     }
-    let d = decode_part(outer_code(), bytes, marks, message);
+    let mut places = frame_of(0);
+    let d = decode_part(outer_code(), bytes, marks, message, &mut places);
     let answer = number_of(d);
     if answer != 0 {
         fill(message, 0);

@@ -48,8 +48,15 @@ pub fn fresh_receiver(memory: &mut [u8], held: &mut [u8]) -> Ready
 }
 
 // The number by which a frame is refused, or 0.
-fn receive_refusal(position: usize, memory: usize, held: &[u8], word: usize, message: usize) -> u8
-    ensures { λ r. ⌜ r ≡ receiveRefusal position memory (now (held .entry)) word message ⌝ }
+fn receive_refusal(
+    position: usize,
+    memory: usize,
+    held: &[u8],
+    word: usize,
+    message: usize,
+    map: usize,
+) -> u8
+    ensures { λ r. ⌜ r ≡ receiveRefusal position memory (now (held .entry)) word message map ⌝ }
 {
     if 108 + frames_of_a_cycle() <= position {
         return 1;
@@ -64,6 +71,9 @@ fn receive_refusal(position: usize, memory: usize, held: &[u8], word: usize, mes
     if message != 24 {
         return 2;
     }
+    if map != 32 {
+        return 2;
+    }
     if !all_below(held, 2) {
         return 3;
     }
@@ -73,17 +83,27 @@ fn receive_refusal(position: usize, memory: usize, held: &[u8], word: usize, mes
 // One frame: an inner word of 32 bytes goes in, and the 24 bytes of the message that was sent 108 frames before come out.
 // Answers 0 with the outer word's figures; 7 for the first 108 frames, and the message bytes stay as they were; 4 where the outer word is
 // refused, and they are zeros. Or 1 for a position that no number of frames reaches, 2 for a length, 3 for a mark above 1 in the memory of
-// marks, and all stays as it was.
+// marks, and all stays as it was, the map too.
+// The map is that of the inner word of this frame, whatever becomes of the outer word: under 0, 7 and 4 it gets 1 at each of the 32 places
+// where the inner word was changed and 0 elsewhere, and it is all 0 where the inner word was refused.
 pub fn receive(
     position: usize,
     memory: &mut [u8],
     held: &mut [u8],
     word: &[u8],
     message: &mut [u8],
+    map: &mut [u8],
 ) -> Received
-    ensures { λ r. ⌜ Receive position (now (memory .entry)) (now (held .entry)) (now (word .entry)) (now (message .entry)) r (now (memory .exit)) (now (held .exit)) (now (message .exit)) ⌝ }
+    ensures { λ r. ⌜ Receive position (now (memory .entry)) (now (held .entry)) (now (word .entry)) (now (message .entry)) (now (map .entry)) r (now (memory .exit)) (now (held .exit)) (now (message .exit)) (now (map .exit)) ⌝ }
 {
-    let r = receive_refusal(position, memory.len(), held, word.len(), message.len());
+    let r = receive_refusal(
+        position,
+        memory.len(),
+        held,
+        word.len(),
+        message.len(),
+        map.len(),
+    );
     if r != 0 {
         return Received {
             answer: r,
@@ -92,7 +112,7 @@ pub fn receive(
         };
     }
     let mut bytes = frame_of(0);
-    let mark = open_inner(word, &mut bytes);
+    let mark = open_inner(word, &mut bytes, map);
     let mut marks = frame_of(mark);
     hold_back(memory, true, position, &mut bytes);
     hold_back(held, true, position, &mut marks);

@@ -1,9 +1,9 @@
--- `receive` meets its contract: refused, all stays; else inner word, delays and outer word are what its parts promise.
+-- `receive` meets its contract: refused, all stays; else inner word and its map, delays and outer word are what its parts promise.
 -- Assumes nothing.
-use mathlib.Core.Path.{_≡_, refl, sym, ap, _∙_}
+use mathlib.Core.Path.{refl, sym, _∙_}
 use borrow.Author.Needs.{needs}
 use Rattle.algebra.specs.Refusal.{kept}
-use Rattle.cross.specs.Checks.{ReceiveFine, receive-fine}
+use Rattle.cross.specs.Checks.{receive-fine}
 use Rattle.cross.proofs.receiver.receive.Statement.{statement}
 use Rattle.cross.proofs.receiver.receive.Tie as tie
 
@@ -27,8 +27,8 @@ slice-aggregate-open-inner c = search needs
 
 open-inner-requires : tie.Need-open-inner-requires
 open-inner-requires c κs =
-    let fine = c .before .before in
-    let f = receive-fine _ _ _ _ _ _ (fine .before .receive-refusal .ensures) (fine .if1 .left) in
+    let fine = c .before .before .before in
+    let f = receive-fine _ _ _ _ _ _ _ (fine .before .receive-refusal .ensures) (fine .if1 .left) in
     search needs
 
 frame-of-requires-2 : tie.Need-frame-of-requires-2
@@ -39,8 +39,8 @@ slice-aggregate-hold-back c = search needs
 
 hold-back-requires : tie.Need-hold-back-requires
 hold-back-requires c κs =
-    let fine = c .before .before .before .before .before .before .before in
-    let f = receive-fine _ _ _ _ _ _ (fine .before .receive-refusal .ensures) (fine .if1 .left) in
+    let fine = c .before .before .before .before .before .before .before .before .before .before in
+    let f = receive-fine _ _ _ _ _ _ _ (fine .before .receive-refusal .ensures) (fine .if1 .left) in
     search needs
 
 slice-aggregate-hold-back-2 : tie.Need-slice-aggregate-hold-back-2
@@ -48,8 +48,8 @@ slice-aggregate-hold-back-2 c = search needs
 
 hold-back-requires-2 : tie.Need-hold-back-requires-2
 hold-back-requires-2 c κs =
-    let fine = c .before .before .before .before .before .before .before .before .before .before .before .before .before in
-    let f = receive-fine _ _ _ _ _ _ (fine .before .receive-refusal .ensures) (fine .if1 .left) in
+    let fine = c .before .before .before .before .before .before .before .before .before .before .before .before .before .before .before .before in
+    let f = receive-fine _ _ _ _ _ _ _ (fine .before .receive-refusal .ensures) (fine .if1 .left) in
     search needs
 
 slice-aggregate-settle : tie.Need-slice-aggregate-settle
@@ -61,8 +61,8 @@ slice-aggregate-settle-2 c = search needs
 settle-requires : tie.Need-settle-requires
 settle-requires c κs =
     let turned = c .before .before .before .before .before .before .before .before .before .before .before .before in
-    let fine = turned .before .before .before .before .before .before .before .before in
-    let f = receive-fine _ _ _ _ _ _ (fine .before .receive-refusal .ensures) (fine .if1 .left) in
+    let fine = turned .before .before .before .before .before .before .before .before .before .before .before in
+    let f = receive-fine _ _ _ _ _ _ _ (fine .before .receive-refusal .ensures) (fine .if1 .left) in
     (f .position, f .message-size)
 
 same-length-2 : tie.Need-same-length-2
@@ -74,17 +74,20 @@ same-length-3 c = search needs
 same-length-4 : tie.Need-same-length-4
 same-length-4 c = search needs
 
+same-length-5 : tie.Need-same-length-5
+same-length-5 c = search needs
+
 returns-2 : tie.Need-returns-2
 returns-2 c =
     let turned = c .before .before .before .before .before .before .before .before .before in
-    let opened = turned .before .before .before .before .before .before .before .before .before .before .before in
-    let fine = opened .before .before .before in
+    let opened = turned .before .before .before .before .before .before .before .before .before .before .before .before .before in
+    let fine = opened .before .before .before .before in
     let z = sym (fine .before .receive-refusal .ensures) ∙ fine .if1 .left in
-    let (mark, passed) = opened .open-inner .ensures in
+    let (mark, passed, map) = opened .open-inner .ensures in
     let (memory, bytes) = rw passed at (turned .before .before .before .before .before .before .hold-back .ensures) in
     let (held, marks) = rw (turned .before .before .before .before .before .before .before .before .before .frame-of2 .ensures, mark) at (turned .hold-back2 .ensures) in
     let (answer, later) = rw (bytes, marks) at (c .before .before .settle .ensures) in
-    record { outcome = rw (z, ← answer, ← later, memory, held) refl }
+    record { outcome = rw (z, ← answer, ← later, memory, held, map) refl }
 
 pub receive-spec : {M : Type 1} → statement M
 receive-spec =
@@ -108,4 +111,5 @@ receive-spec =
     same-length-2
     same-length-3
     same-length-4
+    same-length-5
     returns-2)

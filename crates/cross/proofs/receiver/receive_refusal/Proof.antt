@@ -38,24 +38,33 @@ returns-4 c =
     (first-none _ _ _ (sym (c .before .before .before .fresh-refusal .ensures) ∙ c .before .before .if2 .left)
     (need-yes _ _ _ _ (c .before .if3 .left) (need-no _ _ _ (c .if4 .taken))))
 
-all-below-requires : tie.Need-all-below-requires
-all-below-requires c κs = search needs
-
 returns-5 : tie.Need-returns-5
 unfolding receiveRefusal
 returns-5 c =
-    let m = c .before .all-below in
     need-yes _ _ _ _ (omega arith)
-    (first-none _ _ _ (sym (c .before .before .before .before .before .fresh-refusal .ensures) ∙ c .before .before .before .before .if2 .left)
-    (need-yes _ _ _ _ (c .before .before .before .if3 .left) (need-yes _ _ _ _ (c .before .before .if4 .left) (need-no _ _ _ (test-no (m .result) _ (m .ensures) (c .if5 .taken))))))
+    (first-none _ _ _ (sym (c .before .before .before .before .fresh-refusal .ensures) ∙ c .before .before .before .if2 .left)
+    (need-yes _ _ _ _ (c .before .before .if3 .left) (need-yes _ _ _ _ (c .before .if4 .left) (need-no _ _ _ (c .if5 .taken)))))
+
+all-below-requires : tie.Need-all-below-requires
+all-below-requires c κs = search needs
 
 returns-6 : tie.Need-returns-6
 unfolding receiveRefusal
 returns-6 c =
     let m = c .before .all-below in
+    let sized = c .before .before in
     need-yes _ _ _ _ (omega arith)
-    (first-none _ _ _ (sym (c .before .before .before .before .before .fresh-refusal .ensures) ∙ c .before .before .before .before .if2 .left)
-    (need-yes _ _ _ _ (c .before .before .before .if3 .left) (need-yes _ _ _ _ (c .before .before .if4 .left) (need-yes _ _ _ _ (test-yes (m .result) _ (m .ensures) (c .if5 .left)) refl))))
+    (first-none _ _ _ (sym (sized .before .before .before .before .fresh-refusal .ensures) ∙ sized .before .before .before .if2 .left)
+    (need-yes _ _ _ _ (sized .before .before .if3 .left) (need-yes _ _ _ _ (sized .before .if4 .left) (need-yes _ _ _ _ (sized .if5 .left) (need-no _ _ _ (test-no (m .result) _ (m .ensures) (c .if6 .taken)))))))
+
+returns-7 : tie.Need-returns-7
+unfolding receiveRefusal
+returns-7 c =
+    let m = c .before .all-below in
+    let sized = c .before .before in
+    need-yes _ _ _ _ (omega arith)
+    (first-none _ _ _ (sym (sized .before .before .before .before .fresh-refusal .ensures) ∙ sized .before .before .before .if2 .left)
+    (need-yes _ _ _ _ (sized .before .before .if3 .left) (need-yes _ _ _ _ (sized .before .if4 .left) (need-yes _ _ _ _ (sized .if5 .left) (need-yes _ _ _ _ (test-yes (m .result) _ (m .ensures) (c .if6 .left)) refl)))))
 
 pub receive-refusal-spec : {M : Type 1} → statement M
 receive-refusal-spec =
@@ -68,6 +77,7 @@ receive-refusal-spec =
     returns-2
     returns-3
     returns-4
-    all-below-requires
     returns-5
-    returns-6)
+    all-below-requires
+    returns-6
+    returns-7)
