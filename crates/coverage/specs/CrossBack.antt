@@ -14,10 +14,10 @@ use Rattle.word.specs.Word.{errors, marked}
 use Rattle.word.specs.Codeword.{isCodeword, codeword}
 use Rattle.word.specs.Distance.{total-zero, errors-self, bits-self}
 use Rattle.word.specs.Code.{encoded}
-use Rattle.word.specs.Answers.{decodeOutcome, noFigures, figures}
+use Rattle.word.specs.Map.{changes}
+use Rattle.word.specs.Answers.{noFigures, figures}
 use Rattle.word.specs.declared.Figures.{Figures}
-use Rattle.word.specs.declared.Decoded.the-variants.{Done}
-use Rattle.cross.specs.Cross.{outerCode, innerCode, outerWord, passedOn, markOf, marksOf, closed, received}
+use Rattle.cross.specs.Cross.{outerCode, innerCode, outerWord, passedOn, markOf, marksOf, mapOf, withoutFigures, closed, received}
 use Rattle.cross.specs.Codes.{outer-allowed, inner-allowed, outer-encoded, inner-encoded, inner-given, outer-given}
 use Rattle.cross.specs.Frames.{due-size}
 use Rattle.cross.specs.Calls.{SenderCalls, dueSent, sent-held, sends, ReceiverCalls, dueBytes, dueMarks, seen, receives}
@@ -40,7 +40,7 @@ pub record CrossArrives (many : ℕ) (messages came : ℕ → List ℕ) : Type 0
 
 -- frame F + 108 is answered 0 with message F, and nothing was left for the outer code to correct
 abbrev pub CrossComesBack : ℕ → (ℕ → List ℕ) → (ℕ → Received) → (ℕ → List ℕ) → Type 0
-CrossComesBack many messages answers back = (F : ℕ) → F + 108 < many → received (answers (F + 108)) (back (F + 108)) ≡ decodeOutcome (Done noFigures) (messages F)
+CrossComesBack many messages answers back = (F : ℕ) → F + 108 < many → received (answers (F + 108)) (back (F + 108)) ≡ withoutFigures 0 (messages F)
 
 -- ---- no marks, and no difference
 
@@ -121,8 +121,11 @@ module _ (many : ℕ) (messages came : ℕ → List ℕ) (a : CrossArrives many 
       zero-or-one = zeros-below 32;
     }
 
-    given-on : (0 ≡ markOf (came F)) × (take 28 (a .words F) ≡ passedOn (came F))
-    given-on = inner-given (came F) _ _ (part-given innerCode inner-allowed (replicate 32 0) (came F) (a .words F) came-so (take 28 (came F)) (length-take-le 28 (came F) (omega arith)))
+    given-on : (0 ≡ markOf (came F)) × (take 28 (a .words F) ≡ passedOn (came F)) × (changes (came F) (a .words F) ≡ mapOf (came F))
+    given-on =
+        let size : length {A = ℕ} (replicate 32 0) ≡ 32 = length-replicate {A = ℕ} 32 0 in
+        inner-given (came F) n (a .bytes F h) (replicate 32 0) size _ _ _
+        (part-given innerCode inner-allowed (replicate 32 0) (came F) (a .words F) came-so (replicate 32 0) size (take 28 (came F)) (length-take-le 28 (came F) (omega arith)))
 
     passed-on : passedOn (came F) ≡ dueSent messages F
     passed-on = sym (given-on .1) ∙ front many messages (a .words) (a .sent) F h
@@ -167,10 +170,11 @@ module _ (many : ℕ) (messages came : ℕ → List ℕ) (a : CrossArrives many 
       zero-or-one = zeros-below 28;
     }
 
-    closing : closed (encoded outerCode (messages F)) (replicate 28 0) (r .given (F + 108)) ≡ decodeOutcome (Done noFigures) (messages F)
+    closing : closed (encoded outerCode (messages F)) (replicate 28 0) (r .given (F + 108)) ≡ withoutFigures 0 (messages F)
     closing =
-        sym (outer-given _ _ _ _ _ (part-given outerCode outer-allowed (replicate 28 0) (encoded outerCode (messages F)) (encoded outerCode (messages F)) clean (r .given (F + 108)) (r .given-size (F + 108) h)))
-        ∙ ap₂ (λ (f : Figures) (w : List ℕ). decodeOutcome (Done f) w) (no-figures (encoded outerCode (messages F)) word-size) (encoded-message outerCode outer-allowed (messages F) (size many messages (a .words) (a .sent) F (omega arith)) (a .sent .bytes F (omega arith)))
+        sym (outer-given _ _ _ _ _ _
+        (part-given outerCode outer-allowed (replicate 28 0) (encoded outerCode (messages F)) (encoded outerCode (messages F)) clean (replicate 28 0) (length-replicate {A = ℕ} 28 0) (r .given (F + 108)) (r .given-size (F + 108) h)))
+        ∙ ap₂ (λ (f : Figures) (w : List ℕ). record { number = 0; figures = f; message = w }) (no-figures (encoded outerCode (messages F)) word-size) (encoded-message outerCode outer-allowed (messages F) (size many messages (a .words) (a .sent) F (omega arith)) (a .sent .bytes F (omega arith)))
 
   -- Message F comes back with frame F + 108.
   pub cross-comes-back : (answers : ℕ → Received) (back : ℕ → List ℕ) → ReceiverCalls many came answers back → CrossComesBack many messages answers back

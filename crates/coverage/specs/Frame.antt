@@ -71,15 +71,18 @@ pub record StreamArrives (f : Framing) (messages : List Message) (slots marks : 
 abbrev pub framesOf : Framing → ℕ → (slots marks : List ℕ) → List Frame
 framesOf f many slots marks = tabulate many λ i. record { slots = part (slotCount f) i slots; marks = part (slotCount f) i marks }
 
--- an answer of `receive` with the area it leaves; it meets the promise for a frame and any lent area of A bytes
+-- an answer of `receive` with the area and the map it leaves; it meets the promise for a frame, any lent area of A bytes and any map of n·J marks
 pub record Answer : Type 0 where
   pub received : Received
   pub area : List ℕ
+  pub map : List ℕ
 
 pub record Answers (f : Framing) (frame : Frame) (a : Answer) : Type 0 where
   pub lent : List ℕ
   pub lent-size : length lent ≡ areaSize f
-  pub promise : Receives f (frame .slots) (frame .marks) lent (a .received) (a .area)
+  pub lent-map : List ℕ
+  pub map-size : length lent-map ≡ slotCount f
+  pub promise : Receives f (frame .slots) (frame .marks) lent lent-map (a .received) (a .area) (a .map)
 
 -- the frame is accepted, with the message's payload and sequence number
 pub record ComesBack (m : Message) (a : Answer) : Type 0 where

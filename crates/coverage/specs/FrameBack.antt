@@ -17,7 +17,7 @@ use Rattle.word.specs.Setting.{allowed, messageSize, allowed-yes}
 use Rattle.word.specs.Code.{encoded}
 use Rattle.interleave.specs.Block.{transposed}
 use Rattle.interleave.specs.Slots.{wordIn, word-back}
-use Rattle.frame.specs.Frame.{wordSetting, areaSize, slotCount, allowedFrame, two, twoAt, trailer, areaSent, wordSent, slotsSent, trailerGood, correctedWord, isNone, messageOf, beyond, areaReceived, figuresReceived, payloadOf, numberOf}
+use Rattle.frame.specs.Frame.{wordSetting, areaSize, slotCount, allowedFrame, two, twoAt, trailer, areaSent, wordSent, slotsSent, trailerGood, correctedWord, isNone, messageOf, beyond, areaReceived, figuresReceived, mapReceived, payloadOf, numberOf}
 use Rattle.frame.specs.Frame.Limits.{FrameAllowed, frame-kept, area-few}
 use Rattle.frame.specs.Frame.Trailer.{length-sent, sent-zero, sent-trailer, zeros-all, good-within, payload-there}
 use Rattle.frame.specs.Promises.{Receives, sends-once, receives-once}
@@ -172,31 +172,41 @@ module _ (f : Framing) (ok : T (allowedFrame f)) where
           let e : length area - 4 - (length area - 4 - back) ≡ back = omega (arith, area-size, room) in
           sym (payload-there answer area refl (omega (arith, area-size, room))) ∙ rw (e, area-size) payload-sent
 
-      answered-so : (lent : List ℕ) → length lent ≡ areaSize f → Receives f (frame .slots) (frame .marks) lent answer area
-      answered-so lent size =
-          receive-decoded f (frame .slots) (frame .marks) lent
-          (record { limits = limits; slots-size = a .channel .slots-size; marks-size = a .channel .marks-size; marks-small = a .channel .zero-or-one; area-size = size }) answer area
-          (settled-good (answer .figures) area (omega (arith, area-size, room)) (rw area-size trailer-good) (m .sequence) (length (m .payload)) (rw area-size (sym sequence-sent)) (rw area-size (sym back-sent))
-          ∙ decoded-settled f (frame .slots) (frame .marks) none-beyond (length area) (answer .figures) area area-size refl (sym area-found))
+      abbrev map : List ℕ
+      map = mapReceived f (frame .slots) (frame .marks)
+
+      answered-so : (lent lent-map : List ℕ) → length lent ≡ areaSize f → length lent-map ≡ slotCount f → Receives f (frame .slots) (frame .marks) lent lent-map answer area map
+      answered-so lent lent-map size map-size =
+          receive-decoded f (frame .slots) (frame .marks) lent lent-map
+          (record { limits = limits; slots-size = a .channel .slots-size; marks-size = a .channel .marks-size; marks-small = a .channel .zero-or-one; area-size = size; map-size = map-size }) answer area map
+          (settled-good (answer .figures) area map (omega (arith, area-size, room)) (rw area-size trailer-good) (m .sequence) (length (m .payload)) (rw area-size (sym sequence-sent)) (rw area-size (sym back-sent))
+          ∙ decoded-settled f (frame .slots) (frame .marks) none-beyond (length area) (answer .figures) area map area-size refl (sym area-found) refl)
 
       -- no other answer meets the promise
       comes-back : (r : Answer) → Answers f frame r → ComesBack m r
       comes-back r p =
-          let (x, y) = receives-once (p .promise) (answered-so (p .lent) (p .lent-size)) in
+          let (x, y, _) = receives-once (p .promise) (answered-so (p .lent) (p .lent-map) (p .lent-size) (p .map-size)) in
           record {
             number = ap (λ (z : Received). numberOf (z .verdict)) x;
             payload = ap₂ payloadOf x y ∙ payload-found;
             sequence = ap (λ (z : Received). z .sequence) x;
           }
 
-      -- and there is one, whatever area of A bytes is lent
-      pub answered-in : (lent : List ℕ) → length lent ≡ areaSize f → (r : Answer) × Receives f (frame .slots) (frame .marks) lent (r .received) (r .area)
-      answered-in lent size = (record { received = answer; area = area }, answered-so lent size)
+      -- and there is one, whatever area of A bytes and map of n·J marks are lent
+      pub answered-in : (lent lent-map : List ℕ) → length lent ≡ areaSize f → length lent-map ≡ slotCount f
+          → (r : Answer) × Receives f (frame .slots) (frame .marks) lent lent-map (r .received) (r .area) (r .map)
+      answered-in lent lent-map size map-size = (record { received = answer; area = area; map = map }, answered-so lent lent-map size map-size)
 
       pub some-answer : (r : Answer) × Answers f frame r
       some-answer = (
-        record { received = answer; area = area },
-        record { lent = replicate (areaSize f) 0; lent-size = length-replicate (areaSize f) 0; promise = answered-so _ (length-replicate (areaSize f) 0) },
+        record { received = answer; area = area; map = map },
+        record {
+          lent = replicate (areaSize f) 0;
+          lent-size = length-replicate (areaSize f) 0;
+          lent-map = replicate (slotCount f) 0;
+          map-size = length-replicate (slotCount f) 0;
+          promise = answered-so _ _ (length-replicate (areaSize f) 0) (length-replicate (slotCount f) 0);
+        },
       )
 
 pub frame-comes-back : FrameComesBack

@@ -128,7 +128,10 @@ pub record Accepted (message : List ℕ) (d : Decoded) (given : List ℕ) : Type
   pub number : numberOf d ≡ 0
   pub as-sent : given ≡ message
 
--- and it is so by every answer that meets the promise of `decode`, whose word begins with the message, or that of `decode_part` into any k bytes
+-- and it is so by every answer that meets the promise of `decode`, whose word begins with the message, or that of `decode_part` into any k bytes,
+-- with any map of n marks
 pub record WordComesBack (l : LineSetting) (message received marks : List ℕ) : Type 0 where
-  pub in-place : (d : Decoded) (word : List ℕ) → Decodes (codeOf l) received marks d word → Accepted message d (take (messageSize (codeOf l)) word)
-  pub to-part : (d : Decoded) (lent part : List ℕ) → length lent ≡ messageSize (codeOf l) → DecodesPart (codeOf l) received marks lent d part → Accepted message d part
+  pub in-place : (lent-map : List ℕ) → length lent-map ≡ l .n → (d : Decoded) (word map : List ℕ) → Decodes (codeOf l) received marks lent-map d word map
+      → Accepted message d (take (messageSize (codeOf l)) word)
+  pub to-part : (lent-map : List ℕ) → length lent-map ≡ l .n → (d : Decoded) (lent part map : List ℕ) → length lent ≡ messageSize (codeOf l)
+      → DecodesPart (codeOf l) received marks lent lent-map d part map → Accepted message d part

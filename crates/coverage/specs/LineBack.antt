@@ -150,8 +150,8 @@ line-comes-back l ok messages slots marks bytes flags a r w h =
     let c = word-came l ok messages slots marks a w h in
     let begins = word-begins l ok messages slots marks a w h in
     rw (b, k) (record {
-      in-place = λ d word e. let (x, y) = word-decoded (codeOf l) (ok .code) _ _ _ c d word e in record { number = x; as-sent = ap (take (messageSize (codeOf l))) y ∙ begins };
-      to-part = λ d lent part n e. let (x, y) = part-decoded (codeOf l) (ok .code) _ _ _ c d lent part n e in record { number = x; as-sent = y ∙ begins };
+      in-place = λ lent-map size d word map e. let (x, y) = word-decoded (codeOf l) (ok .code) _ _ _ c lent-map size d word map e in record { number = x; as-sent = ap (take (messageSize (codeOf l))) y ∙ begins };
+      to-part = λ lent-map size d lent part map n e. let (x, y) = part-decoded (codeOf l) (ok .code) _ _ _ c lent-map size d lent part map n e in record { number = x; as-sent = y ∙ begins };
     })
 
 -- ---- no two alike: the codewords of both lists are near what came, so they are the same, and so are the messages they begin with

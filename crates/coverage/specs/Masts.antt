@@ -3,14 +3,12 @@
 -- Assumes nothing.
 use mathlib.Core.Path.{_≡_}
 use mathlib.Core.Logic.{_⊎_, _≢_}
-use mathlib.Core.List.{List}
-use Prim.Native.Nat.{ℕ}
 use lib.ListN.{length}
-use Rattle.frame.specs.Frame.{areaSize, numberOf}
+use Rattle.frame.specs.Frame.{areaSize, slotCount, numberOf}
 use Rattle.frame.specs.Promises.{Receives}
 use Rattle.frame.specs.declared.setting.Framing.{Framing}
 use Rattle.record.specs.declared.Record.{Record}
-use Rattle.link.specs.Masts.{Copy, payloadOfUsed, usedCopy}
+use Rattle.link.specs.Masts.{Copy, Left, payloadOfUsed, usedCopy}
 use Rattle.link.specs.Promises.{ReceivesMasts, HearsMasts}
 use Rattle.link.specs.declared.choice.Chosen.{Chosen}
 use Rattle.coverage.specs.Frame.{Message, Frame, Arrives, Answer, ComesBack}
@@ -20,14 +18,15 @@ use Rattle.coverage.specs.Frame.{Message, Frame, Arrives, Answer, ComesB
 abbrev pub frameOf : Copy → Frame
 frameOf c = record { slots = c .slots; marks = c .marks }
 
--- it meets its proviso: the message arrives in it with every word within the bound, and an area of A bytes is lent for it
+-- it meets its proviso: the message arrives in it with every word within the bound, and an area of A bytes and a map of n·J marks are lent for it
 pub record CopyArrives (f : Framing) (m : Message) (c : Copy) : Type 0 where
   pub arrives : Arrives f m (frameOf c)
   pub room : length (c .area) ≡ areaSize f
+  pub map-room : length (c .map) ≡ slotCount f
 
 -- its own call answers so
 abbrev pub Alone : Framing → Copy → Answer → Type 0
-Alone f c a = Receives f (c .slots) (c .marks) (c .area) (a .received) (a .area)
+Alone f c a = Receives f (c .slots) (c .marks) (c .area) (c .map) (a .received) (a .area) (a .map)
 
 -- it is refused, by any number
 pub record Refused (f : Framing) (c : Copy) : Type 0 where
@@ -55,11 +54,11 @@ MastsArrive f m c =
 
 -- ---- the answer to both
 
--- with what it leaves in the two areas
+-- with what it leaves for the two copies
 pub record MastsAnswer : Type 0 where
   pub chosen : Chosen
-  pub first : List ℕ
-  pub second : List ℕ
+  pub first : Left
+  pub second : Left
 
 -- it meets the promise of `receive_masts`; ..
 abbrev pub MastsAnswers : Framing → Copies → MastsAnswer → Type 0
@@ -72,5 +71,5 @@ MastsHeard before f c a next = HearsMasts before f (c .first) (c .second) (a .ch
 -- a frame is handed back, with the message's payload and sequence number
 pub record MastsBack (m : Message) (a : MastsAnswer) : Type 0 where
   pub number : a .chosen .number ≡ 0
-  pub payload : payloadOfUsed (a .chosen .mast) (usedCopy (a .chosen)) (a .first) (a .second) ≡ m .payload
+  pub payload : payloadOfUsed (a .chosen .mast) (usedCopy (a .chosen)) (a .first .area) (a .second .area) ≡ m .payload
   pub sequence : a .chosen .sequence ≡ m .sequence

@@ -12,7 +12,7 @@ use Rattle.record.specs.Record.{noted}
 use Rattle.record.specs.declared.Record.{Record}
 use Rattle.frame.specs.Frame.{ReceiveOutcome, allowedFrame}
 use Rattle.frame.specs.declared.setting.Framing.{Framing}
-use Rattle.link.specs.Masts.{Copy, alone, damage, MastsOutcome, giving, choosing, chosenOutcome, receivingMasts, HearMastsOutcome, hearingMasts}
+use Rattle.link.specs.Masts.{Copy, leftOf, alone, damage, MastsOutcome, giving, choosing, receivingMasts, HearMastsOutcome, hearingMasts}
 use Rattle.link.specs.Masts.Laws.{choosing-first, choosing-second, choosing-better-first, choosing-better-second, some-choice}
 use Rattle.link.specs.Promises.{each-received}
 use Rattle.link.specs.declared.choice.Mast.{Mast}
@@ -44,8 +44,8 @@ module _ (f : Framing) (m : Message) (c : Copy) where
   -- .. as a copy within its proviso does
   returns : T (allowedFrame f) → CopyArrives f m c → Returned f m c
   returns ok a =
-      let (r, p) = answered-in f ok m (a .arrives .sending .fits) (frameOf c) (a .arrives) (c .area) (a .room) in
-      record { answer = r; promise = p; back = frame-comes-back f ok m (frameOf c) r (a .arrives) (record { lent = c .area; lent-size = a .room; promise = p }) }
+      let (r, p) = answered-in f ok m (a .arrives .sending .fits) (frameOf c) (a .arrives) (c .area) (c .map) (a .room) (a .map-room) in
+      record { answer = r; promise = p; back = frame-comes-back f ok m (frameOf c) r (a .arrives) (record { lent = c .area; lent-size = a .room; lent-map = c .map; map-size = a .map-room; promise = p }) }
 
 -- .. or no frame
 gives-none : (f : Framing) (c : Copy) → Refused f c → alone f c .number ≢ 0
@@ -127,7 +127,7 @@ some-answer f m c ok = ⊎-elim
     answered : {r s : Answer} → Alone f (c .first) r → Alone f (c .second) s → (a : MastsAnswer) × MastsAnswers f c a
     answered {r} {s} p q =
         let (t, e) = some-choice (r .received) (s .received) in
-        (record { chosen = t; first = r .area; second = s .area }, each-received p q e)
+        (record { chosen = t; first = leftOf (r .area) (r .map); second = leftOf (s .area) (s .map) }, each-received p q e)
 
 once : (f : Framing) → T (allowedFrame f) → (m n : Message) (c : Copies) → MastsArrive f m c → MastsArrive f n c → m ≡ n
 once f ok m n c g h =

@@ -10,6 +10,7 @@ use lib.Dec.{T, lit<}
 use Rattle.algebra.specs.Tests.{at, below, below-at, below-all}
 use Rattle.algebra.specs.Lists.{tabulate, length-tabulate, getD-tabulate}
 use Rattle.word.specs.Setting.{allowed, messageSize}
+use Rattle.word.specs.Map.{changes}
 use Rattle.word.specs.Codeword.{isCodeword, qualifies, codeword, is-in-reach}
 use Rattle.word.specs.Code.{encoded, corrected}
 use Rattle.word.specs.Code.Laws.{qualifies-once, corrected-only, encoded-codeword, encoded-begins}
@@ -80,21 +81,22 @@ module _ (s : Setting) (ok : T (allowed s)) (marks came : List ℕ) where
     checks : Checked s marks came
     checks = record { setting = ok; size = c .size; marks-size = c .marks-size; small = c .bytes; marks-small = c .zero-or-one }
 
-    -- every answer that meets the promise of `decode` is Done, and leaves the codeword that was sent
-    pub word-decoded : (d : Decoded) (word : List ℕ) → Decodes s came marks d word → (numberOf d ≡ 0) × (word ≡ sent)
-    word-decoded d word p =
-        let (x, y) = decodes-once p (decode-found s came marks checks sent (figures marks came sent) word-corrected refl) in
-        (ap numberOf x, y)
+    module _ (lent-map : List ℕ) (n : length lent-map ≡ s .n) where
+      -- every answer that meets the promise of `decode` is Done, and leaves the codeword that was sent
+      pub word-decoded : (d : Decoded) (word map : List ℕ) → Decodes s came marks lent-map d word map → (numberOf d ≡ 0) × (word ≡ sent)
+      word-decoded d word map p =
+          let (x, y, _) = decodes-once p (decode-found s came marks lent-map n checks sent (figures marks came sent) (changes came sent) word-corrected refl refl) in
+          (ap numberOf x, y)
 
-    -- what `decode_part` promises of it
-    pub part-given : (lent : List ℕ) → length lent ≡ messageSize s → DecodesPart s came marks lent (Done (figures marks came sent)) (take (messageSize s) sent)
-    part-given lent k = part-found s came marks lent k checks sent (figures marks came sent) word-corrected refl
+      -- what `decode_part` promises of it
+      pub part-given : (lent : List ℕ) → length lent ≡ messageSize s → DecodesPart s came marks lent lent-map (Done (figures marks came sent)) (take (messageSize s) sent) (changes came sent)
+      part-given lent k = part-found s came marks lent lent-map k n checks sent (figures marks came sent) (changes came sent) word-corrected refl refl
 
-    -- and every one that meets that of `decode_part` is Done, and leaves its message
-    pub part-decoded : (d : Decoded) (lent part : List ℕ) → length lent ≡ messageSize s → DecodesPart s came marks lent d part → (numberOf d ≡ 0) × (part ≡ take (messageSize s) sent)
-    part-decoded d lent part k p =
-        let (x, y) = decodes-part-once p (part-given lent k) in
-        (ap numberOf x, y)
+      -- and every one that meets that of `decode_part` is Done, and leaves its message
+      pub part-decoded : (d : Decoded) (lent part map : List ℕ) → length lent ≡ messageSize s → DecodesPart s came marks lent lent-map d part map → (numberOf d ≡ 0) × (part ≡ take (messageSize s) sent)
+      part-decoded d lent part map k p =
+          let (x, y, _) = decodes-part-once p (part-given lent k) in
+          (ap numberOf x, y)
 
   -- two codewords that may both come so are one
   pub word-once : (c d : List ℕ) → Came s c came marks → Came s d came marks → c ≡ d

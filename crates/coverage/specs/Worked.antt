@@ -98,18 +98,18 @@ frame-arrives = record {
 -- that frame at the first mast, while the second has received nothing at all and is refused 2
 
 abbrev copies : Copies
-copies = record { first = copyOf slotsIn (replicate 10 0) (replicate 6 0); second = copyOf [] [] [] }
+copies = record { first = copyOf slotsIn (replicate 10 0) (replicate 6 0) (replicate 10 0); second = copyOf [] [] [] [] }
 
 second-refused : Refused example (copies .second)
 unfolding receiveRefusal allowedFrame allowed isField
 second-refused = record {
-  answer = record { received = refusedWith 2 0; area = [] };
-  promise = receive-refused example [] [] [] 2 (need-yes (decided (allowedFrame example)) 1 _ 2 tt (need-no (ℕ-discrete 0 10) 2 _ λ e. absurd (omega arith))) (lit≤ tt);
+  answer = record { received = refusedWith 2 0; area = []; map = [] };
+  promise = receive-refused example [] [] [] [] 2 (need-yes (decided (allowedFrame example)) 1 _ 2 tt (need-no (ℕ-discrete 0 10) 2 _ λ e. absurd (omega arith))) (lit≤ tt);
   number = λ e. absurd (omega arith);
 }
 
 pub masts-arrive : MastsArrive example message copies
-masts-arrive = inl (record { arrives = frame-arrives; room = refl }, inl second-refused)
+masts-arrive = inl (record { arrives = frame-arrives; room = refl; map-room = refl }, inl second-refused)
 
 -- the same frame twice, end to end, with a run of J·t = 2 slots across the border
 

@@ -16,10 +16,13 @@ frame-answer-requires c κs = search needs
 same-length : tie.Need-same-length
 same-length c = search needs
 
+same-length-2 : tie.Need-same-length-2
+same-length-2 c = search needs
+
 returns : tie.Need-returns
 returns c =
-    let told = c .before .before .before .before in
-    record { inner = told .receive .result; promised = rw (told .before .before .framing-of .ensures) at (told .receive .ensures); same = c .frame-answer .ensures }
+    let told = c .before .before .before .before .before .before .receive in
+    record { inner = told .result; promised = rw (c .before .before .before .before .before .before .before .before .before .framing-of .ensures) at (told .ensures); same = c .frame-answer .ensures }
 
 pub yaxo-frame-receive-spec : {M : Type 1} → statement M
-yaxo-frame-receive-spec = tie.close (tie.spec framing-of-requires receive-requires frame-answer-requires same-length returns)
+yaxo-frame-receive-spec = tie.close (tie.spec framing-of-requires receive-requires frame-answer-requires same-length same-length-2 returns)

@@ -24,12 +24,15 @@ frame-answer-requires c κs = search needs
 same-length : tie.Need-same-length
 same-length c = search needs
 
+same-length-2 : tie.Need-same-length-2
+same-length-2 c = search needs
+
 returns : tie.Need-returns
 returns c =
-    let inner = c .before .before .before .before .before .hear in
+    let told = c .before .before .before .before .before .before .before .hear in
     record {
-      inner = inner .result;
-      promised = rw (c .before .before .before .before .before .before .before .before .record-of .ensures, c .before .before .before .before .before .before .before .framing-of .ensures) at (inner .ensures);
+      inner = told .result;
+      promised = rw (c .before .before .before .before .before .before .before .before .before .before .before .record-of .ensures, c .before .before .before .before .before .before .before .before .before .before .framing-of .ensures) at (told .ensures);
       same = ap₂ bothSeen (c .before .before .record-seen .ensures) (c .frame-answer .ensures);
     }
 
@@ -43,4 +46,5 @@ yaxo-hear-spec =
     record-seen-requires
     frame-answer-requires
     same-length
+    same-length-2
     returns)

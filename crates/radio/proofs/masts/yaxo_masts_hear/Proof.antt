@@ -27,15 +27,19 @@ same-length c = search needs
 same-length-2 : tie.Need-same-length-2
 same-length-2 c = search needs
 
+same-length-3 : tie.Need-same-length-3
+same-length-3 c = search needs
+
+same-length-4 : tie.Need-same-length-4
+same-length-4 c = search needs
+
 returns : tie.Need-returns
 returns c =
-    let seen = c .before .before .before in
-    let told = seen .before .before .before .before .before in
-    let set = told .before .before .before in
+    let told = c .before .before .before .before .before .before .before .before .before .before .before .before .hear-masts in
     record {
-      inner = told .hear-masts .result;
-      promised = rw (set .before .record-of .ensures, set .framing-of .ensures) at (told .hear-masts .ensures);
-      same = ap₂ bothMastsSeen (seen .record-seen .ensures) (c .chosen-answer .ensures);
+      inner = told .result;
+      promised = rw (c .before .before .before .before .before .before .before .before .before .before .before .before .before .before .before .before .before .before .record-of .ensures, c .before .before .before .before .before .before .before .before .before .before .before .before .before .before .before .before .before .framing-of .ensures) at (told .ensures);
+      same = ap₂ bothMastsSeen (c .before .before .before .record-seen .ensures) (c .chosen-answer .ensures);
     }
 
 pub yaxo-masts-hear-spec : {M : Type 1} → statement M
@@ -49,4 +53,6 @@ yaxo-masts-hear-spec =
     chosen-answer-requires
     same-length
     same-length-2
+    same-length-3
+    same-length-4
     returns)

@@ -19,16 +19,22 @@ same-length c = search needs
 same-length-2 : tie.Need-same-length-2
 same-length-2 c = search needs
 
+same-length-3 : tie.Need-same-length-3
+same-length-3 c = search needs
+
+same-length-4 : tie.Need-same-length-4
+same-length-4 c = search needs
+
 returns : tie.Need-returns
 returns c =
-    let told = c .before .before .before .before .before .before .before in
+    let told = c .before .before .before .before .before .before .before .before .before .before .before .receive-masts in
     record {
-      inner = told .receive-masts .result;
-      promised = rw (told .before .before .before .framing-of .ensures) at (told .receive-masts .ensures);
+      inner = told .result;
+      promised = rw (c .before .before .before .before .before .before .before .before .before .before .before .before .before .before .before .before .framing-of .ensures) at (told .ensures);
       same = c .chosen-answer .ensures;
     }
 
 pub yaxo-masts-receive-spec : {M : Type 1} → statement M
 yaxo-masts-receive-spec =
     tie.close
-    (tie.spec framing-of-requires receive-masts-requires chosen-answer-requires same-length same-length-2 returns)
+    (tie.spec framing-of-requires receive-masts-requires chosen-answer-requires same-length same-length-2 same-length-3 same-length-4 returns)

@@ -16,10 +16,13 @@ word-answer-requires c κs = search needs
 same-length : tie.Need-same-length
 same-length c = search needs
 
+same-length-2 : tie.Need-same-length-2
+same-length-2 c = search needs
+
 returns : tie.Need-returns
 returns c =
-    let told = c .before .before .before in
-    record { inner = told .decode .result; promised = rw (told .before .before .code-of .ensures) at (told .decode .ensures); same = c .word-answer .ensures }
+    let told = c .before .before .before .before .before .decode in
+    record { inner = told .result; promised = rw (c .before .before .before .before .before .before .before .before .code-of .ensures) at (told .ensures); same = c .word-answer .ensures }
 
 pub yaxo-word-decode-spec : {M : Type 1} → statement M
-yaxo-word-decode-spec = tie.close (tie.spec code-of-requires decode-requires word-answer-requires same-length returns)
+yaxo-word-decode-spec = tie.close (tie.spec code-of-requires decode-requires word-answer-requires same-length same-length-2 returns)
