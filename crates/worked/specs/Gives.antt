@@ -32,9 +32,10 @@ Multiplies m x y z = (r : Element) → elementOutcome r ≡ productOf m x y → 
 abbrev pub EncodesTo : Setting → (message word : List ℕ) → Type 0
 EncodesTo s message word = (held left : List ℕ) (d : Encoded) → length held ≡ s .n → Encodes s message held d left → (d ≡ E.Done) × (left ≡ word)
 
--- `decode`: the received word has this answer, and is this word afterwards
-abbrev pub DecodesTo : Setting → (received marks : List ℕ) → Decoded → (word : List ℕ) → Type 0
-DecodesTo s received marks answer word = (left : List ℕ) (d : Decoded) → Decodes s received marks d left → (d ≡ answer) × (left ≡ word)
+-- `decode`: the received word has this answer and is this word afterwards, with this map, whatever the map held
+abbrev pub DecodesTo : Setting → (received marks : List ℕ) → Decoded → (word map : List ℕ) → Type 0
+DecodesTo s received marks answer word map =
+    (held left left-map : List ℕ) (d : Decoded) → length held ≡ s .n → Decodes s received marks held d left left-map → (d ≡ answer) × (left ≡ word) × (left-map ≡ map)
 
 abbrev pub accepted : (e f bits : ℕ) → Decoded
 accepted e f bits = Done (record { errors = e; marked = f; bits = bits })

@@ -35,14 +35,16 @@ use Rattle.interleave.specs.declared.line.Received.{Received}
 -- no call of the word code answers 1
 pub record Stands (s : Setting) : Type 0 where
   pub encode : (message held left : List ℕ) (d : Encoded) → Encodes s message held d left → d ≢ E.BadSetting
-  pub decode : (received marks left : List ℕ) (d : Decoded) → Decodes s received marks d left → d ≢ BadSetting
-  pub decode-part : (received marks part left : List ℕ) (d : Decoded) → DecodesPart s received marks part d left → d ≢ BadSetting
+  pub decode : (received marks map left left-map : List ℕ) (d : Decoded) → Decodes s received marks map d left left-map → d ≢ BadSetting
+  pub decode-part : (received marks part map left left-map : List ℕ) (d : Decoded) → DecodesPart s received marks part map d left left-map → d ≢ BadSetting
 
--- each answers 1 and leaves its buffer
+-- each answers 1 and leaves its buffer, and the map where it is lent one
 pub record Refused (s : Setting) : Type 0 where
   pub encode : (message held left : List ℕ) (d : Encoded) → Encodes s message held d left → (d ≡ E.BadSetting) × (left ≡ held)
-  pub decode : (received marks left : List ℕ) (d : Decoded) → Decodes s received marks d left → (d ≡ BadSetting) × (left ≡ received)
-  pub decode-part : (received marks part left : List ℕ) (d : Decoded) → DecodesPart s received marks part d left → (d ≡ BadSetting) × (left ≡ part)
+  pub decode : (received marks map left left-map : List ℕ) (d : Decoded) → Decodes s received marks map d left left-map
+      → (d ≡ BadSetting) × (left ≡ received) × (left-map ≡ map)
+  pub decode-part : (received marks part map left left-map : List ℕ) (d : Decoded) → DecodesPart s received marks part map d left left-map
+      → (d ≡ BadSetting) × (left ≡ part) × (left-map ≡ map)
 
 -- a delay line can be made fresh, in memories of its length
 pub record LineStands (I M n : ℕ) : Type 0 where
@@ -92,16 +94,17 @@ module _ (s : Setting) (ok : T (allowed s)) where
   encode-past message word =
       need-past _ _ ok (need-either _ 2 _ other (λ e. omega arith) (need-either _ 2 _ other (λ e. omega arith) (need-either _ 3 0 other (λ e. omega arith) λ e. omega arith)))
 
-  decode-past : (received marks : List ℕ) → decodeRefusal s received marks ≢ 1
+  decode-past : (received marks map : List ℕ) → decodeRefusal s received marks map ≢ 1
   unfolding decodeRefusal
-  decode-past received marks =
+  decode-past received marks map =
       need-past _ _ ok
       (need-either _ 2 _ other (λ e. omega arith)
-      (need-either _ 2 _ other (λ e. omega arith) (need-either _ 3 _ other (λ e. omega arith) (need-either _ 3 0 other (λ e. omega arith) λ e. omega arith))))
+      (need-either _ 2 _ other (λ e. omega arith) (need-either _ 2 _ other (λ e. omega arith)
+      (need-either _ 3 _ other (λ e. omega arith) (need-either _ 3 0 other (λ e. omega arith) λ e. omega arith)))))
 
-  part-past : (received marks part : List ℕ) → partRefusal s received marks part ≢ 1
+  part-past : (received marks part map : List ℕ) → partRefusal s received marks part map ≢ 1
   unfolding partRefusal
-  part-past received marks part = need-past _ _ ok (need-either _ 2 _ other (λ e. omega arith) (decode-past received marks))
+  part-past received marks part map = need-past _ _ ok (need-either _ 2 _ other (λ e. omega arith) (decode-past received marks map))
 
 -- an outcome is 1 only where its checks are, or what they let through
 past : {O : Type 0} (number : O → ℕ) (k : ℕ) (done refused : O) → k ≢ 1 → number done ≢ 1 → number refused ≡ k → number (ifZero k done refused) ≢ 1
@@ -122,9 +125,9 @@ stands s a =
     record {
       encode = λ message held left d p e. past (λ (o : EncodeOutcome). o .number) _ _ _ (encode-past s ok message held) not-one refl
           (rw e at (sym (ap (λ (o : EncodeOutcome). o .number) (p .outcome))));
-      decode = λ received marks left d p e. past (λ (o : DecodeOutcome). o .number) _ _ _ (decode-past s ok received marks) (corrects _ _ _ _ (corrected s marks received)) refl
+      decode = λ received marks map left left-map d p e. past (λ (o : DecodeOutcome). o .number) _ _ _ (decode-past s ok received marks map) (corrects _ _ _ _ (corrected s marks received)) refl
           (rw e at (sym (ap (λ (o : DecodeOutcome). o .number) (p .outcome))));
-      decode-part = λ received marks part left d p e. past (λ (o : DecodeOutcome). o .number) _ _ _ (part-past s ok received marks part) (corrects _ _ _ _ (corrected s marks received)) refl
+      decode-part = λ received marks part map left left-map d p e. past (λ (o : DecodeOutcome). o .number) _ _ _ (part-past s ok received marks part map) (corrects _ _ _ _ (corrected s marks received)) refl
           (rw e at (sym (ap (λ (o : DecodeOutcome). o .number) (p .outcome))));
     }
 
@@ -133,10 +136,10 @@ refused s h =
     let a : allowed s ≡ false = sym (allowed-no s h) in
     record {
       encode = λ message held left d p. encodes-once p (encode-refused s message held 1 E.BadSetting (encode-setting s message held a) (lit≤ tt) refl);
-      decode = λ received marks left d p. decodes-once p
-          (decode-refused s received marks 1 BadSetting (decode-setting s received marks a) (lit≤ tt) (record { number = refl; none = refl }));
-      decode-part = λ received marks part left d p. decodes-part-once p
-          (part-refused s received marks part 1 BadSetting (part-setting s received marks part a) (lit≤ tt) (record { number = refl; none = refl }));
+      decode = λ received marks map left left-map d p. decodes-once p
+          (decode-refused s received marks map 1 BadSetting (decode-setting s received marks map a) (lit≤ tt) (record { number = refl; none = refl }));
+      decode-part = λ received marks part map left left-map d p. decodes-part-once p
+          (part-refused s received marks part map 1 BadSetting (part-setting s received marks part map a) (lit≤ tt) (record { number = refl; none = refl }));
     }
 
 -- ---- laws: the delay line

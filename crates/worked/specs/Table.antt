@@ -1,5 +1,5 @@
 -- Document 01, "Worked table": P1 to P13 under one claim, `worked-table`. Each item is what every answer of the call is that meets its
--- promise (`specs/Gives.antt`). The program of this crate runs the same items.
+-- promise (`specs/Gives.antt`). The program of this crate runs the same items. The maps are those of document 02, No. 6.
 -- Assumes nothing.
 use mathlib.Core.Path.{refl}
 use mathlib.Core.List.{[], _∷_}
@@ -15,6 +15,7 @@ use Rattle.field.specs.Once.{product-once}
 use Rattle.field.specs.declared.Element.the-variants.{Is}
 use Rattle.word.specs.Setting.{allowed}
 use Rattle.word.specs.Word.{valueFrom, errorOf, errors, marked, bits}
+use Rattle.word.specs.Map.{changeOf, changes}
 use Rattle.word.specs.Codeword.{isCodeword, qualifies}
 use Rattle.algebra.specs.Sets.{put}
 use Rattle.algebra.specs.Refusal.{need}
@@ -45,20 +46,20 @@ pub record WorkedTable : Type 0 where
   pub p2 : Multiplies 8 128 2 29
   -- 002's code: message 7,3,2 encodes to 7,3,2,5,6,4,1
   pub p3 : EncodesTo code002 (7 ∷ 3 ∷ 2 ∷ []) (7 ∷ 3 ∷ 2 ∷ 5 ∷ 6 ∷ 4 ∷ 1 ∷ [])
-  -- 7,3,5,1,6,4,1 unmarked: that word, e 2, bits 4
-  pub p4 : DecodesTo code002 (7 ∷ 3 ∷ 5 ∷ 1 ∷ 6 ∷ 4 ∷ 1 ∷ []) (0 ∷ 0 ∷ 0 ∷ 0 ∷ 0 ∷ 0 ∷ 0 ∷ []) (accepted 2 0 4) (7 ∷ 3 ∷ 2 ∷ 5 ∷ 6 ∷ 4 ∷ 1 ∷ [])
+  -- 7,3,5,1,6,4,1 unmarked: that word, e 2, bits 4; changed at the third and fourth place
+  pub p4 : DecodesTo code002 (7 ∷ 3 ∷ 5 ∷ 1 ∷ 6 ∷ 4 ∷ 1 ∷ []) (0 ∷ 0 ∷ 0 ∷ 0 ∷ 0 ∷ 0 ∷ 0 ∷ []) (accepted 2 0 4) (7 ∷ 3 ∷ 2 ∷ 5 ∷ 6 ∷ 4 ∷ 1 ∷ []) (0 ∷ 0 ∷ 1 ∷ 1 ∷ 0 ∷ 0 ∷ 0 ∷ [])
   -- S: message 1 gives 1,3,2
   pub p5 : EncodesTo codeS (1 ∷ []) (1 ∷ 3 ∷ 2 ∷ [])
-  -- S: 0,3,2 gives 1,3,2, e 1, bits 1
-  pub p6 : DecodesTo codeS (0 ∷ 3 ∷ 2 ∷ []) (0 ∷ 0 ∷ 0 ∷ []) (accepted 1 0 1) (1 ∷ 3 ∷ 2 ∷ [])
-  -- S: 0,0,2 gives 0,0,0, e 1, bits 1
-  pub p7 : DecodesTo codeS (0 ∷ 0 ∷ 2 ∷ []) (0 ∷ 0 ∷ 0 ∷ []) (accepted 1 0 1) (0 ∷ 0 ∷ 0 ∷ [])
-  -- S: 0,0,2 marked 1,1,0 gives 1,3,2, f 2, e 0, bits 3
-  pub p8 : DecodesTo codeS (0 ∷ 0 ∷ 2 ∷ []) (1 ∷ 1 ∷ 0 ∷ []) (accepted 0 2 3) (1 ∷ 3 ∷ 2 ∷ [])
-  -- S: 0,1,2 unmarked is refused, 4
-  pub p9 : DecodesTo codeS (0 ∷ 1 ∷ 2 ∷ []) (0 ∷ 0 ∷ 0 ∷ []) BeyondReach (0 ∷ 1 ∷ 2 ∷ [])
-  -- S: 1,3,2 marked 1,1,1 is refused, 4
-  pub p10 : DecodesTo codeS (1 ∷ 3 ∷ 2 ∷ []) (1 ∷ 1 ∷ 1 ∷ []) BeyondReach (1 ∷ 3 ∷ 2 ∷ [])
+  -- S: 0,3,2 gives 1,3,2, e 1, bits 1; map 1,0,0
+  pub p6 : DecodesTo codeS (0 ∷ 3 ∷ 2 ∷ []) (0 ∷ 0 ∷ 0 ∷ []) (accepted 1 0 1) (1 ∷ 3 ∷ 2 ∷ []) (1 ∷ 0 ∷ 0 ∷ [])
+  -- S: 0,0,2 gives 0,0,0, e 1, bits 1; map 0,0,1
+  pub p7 : DecodesTo codeS (0 ∷ 0 ∷ 2 ∷ []) (0 ∷ 0 ∷ 0 ∷ []) (accepted 1 0 1) (0 ∷ 0 ∷ 0 ∷ []) (0 ∷ 0 ∷ 1 ∷ [])
+  -- S: 0,0,2 marked 1,1,0 gives 1,3,2, f 2, e 0, bits 3; map 1,1,0
+  pub p8 : DecodesTo codeS (0 ∷ 0 ∷ 2 ∷ []) (1 ∷ 1 ∷ 0 ∷ []) (accepted 0 2 3) (1 ∷ 3 ∷ 2 ∷ []) (1 ∷ 1 ∷ 0 ∷ [])
+  -- S: 0,1,2 unmarked is refused, 4; map 0,0,0
+  pub p9 : DecodesTo codeS (0 ∷ 1 ∷ 2 ∷ []) (0 ∷ 0 ∷ 0 ∷ []) BeyondReach (0 ∷ 1 ∷ 2 ∷ []) (0 ∷ 0 ∷ 0 ∷ [])
+  -- S: 1,3,2 marked 1,1,1 is refused, 4; map 0,0,0
+  pub p10 : DecodesTo codeS (1 ∷ 3 ∷ 2 ∷ []) (1 ∷ 1 ∷ 1 ∷ []) BeyondReach (1 ∷ 3 ∷ 2 ∷ []) (0 ∷ 0 ∷ 0 ∷ [])
   -- J = 2, words 1,3,2 and 2,6,4: slots 1,2,3,6,2,4
   pub p11 : SpreadsTo 2 3 (1 ∷ 3 ∷ 2 ∷ 2 ∷ 6 ∷ 4 ∷ []) (1 ∷ 2 ∷ 3 ∷ 6 ∷ 2 ∷ 4 ∷ [])
   -- I = 2, M = 2, bytes 1 to 8: out 1,0,3,0,5,2,7,4. Fed to the receiver: 0,0,0,0,1,2,3,4, marks 1,0,1,0,0,0,0,0. (4 is the one n that fits.)
@@ -79,7 +80,7 @@ line224 = record { branches = (lit≤ tt, lit≤ tt); unit = (lit≤ tt, lit≤ 
 -- ---- the rest is computed
 
 pub worked-table : WorkedTable
-unfolding productOf isElement need put ℕ-discrete decodeRefusal allowed isField below qualifies isCodeword each valueFrom errorOf errors marked bits total ones onesIn _⊕_ times reduce product power transposed tabulate answer memory position lineOut lineKept ring tri period common compared
+unfolding productOf isElement need put ℕ-discrete decodeRefusal allowed isField below qualifies isCodeword each valueFrom errorOf errors marked bits changeOf changes total ones onesIn _⊕_ times reduce product power transposed tabulate answer memory position lineOut lineKept ring tri period common compared
 worked-table = record {
   p1 = λ r e. product-once 3 2 5 r (Is 1) e refl;
   p2 = λ r e. product-once 8 128 2 r (Is 29) e refl;

@@ -16,6 +16,13 @@ pub struct Outcome {
     pub bits: u16,
 }
 
+// How many symbols of a word, of its marks and of the room for its map a call is lent.
+pub struct Lent {
+    pub word: usize,
+    pub marks: usize,
+    pub map: usize,
+}
+
 // A setting of the word code, in the paper's order.
 pub fn setting(m: usize, n: usize, r: usize, b: usize) -> Setting {
     Setting {
@@ -79,33 +86,48 @@ pub fn encodes(s: Setting, message: &[u8], symbols: &mut [u8], number: u8, after
     same(symbols, after)
 }
 
-// Whether decoding has this outcome and leaves these symbols in the word.
+// Whether decoding has this outcome, and leaves these symbols in the word and this map.
 pub fn decodes(
     s: Setting,
     symbols: &mut [u8],
     marks: &[u8],
+    map: &mut [u8],
     wanted: Outcome,
     after: &[u8],
+    changed: &[u8],
 ) -> bool {
-    if !agrees(found(word::decode(s, symbols, marks)), wanted) {
+    if !agrees(found(word::decode(s, symbols, marks, map)), wanted) {
         return false;
     }
-    same(symbols, after)
+    both_same(symbols, after, map, changed)
 }
 
-// Whether decoding into a part has this outcome and leaves these symbols in the part.
+// Whether decoding into a part has this outcome, and leaves these symbols in the part and this map.
 pub fn decodes_part(
     s: Setting,
     symbols: &[u8],
     marks: &[u8],
     part: &mut [u8],
+    map: &mut [u8],
     wanted: Outcome,
     after: &[u8],
+    changed: &[u8],
 ) -> bool {
-    if !agrees(found(word::decode_part(s, symbols, marks, part)), wanted) {
+    if !agrees(
+        found(word::decode_part(s, symbols, marks, part, map)),
+        wanted,
+    ) {
         return false;
     }
-    same(part, after)
+    both_same(part, after, map, changed)
+}
+
+// Whether a is b, and c is d.
+fn both_same(a: &[u8], b: &[u8], c: &[u8], d: &[u8]) -> bool {
+    if !same(a, b) {
+        return false;
+    }
+    same(c, d)
 }
 
 // `encodes` with the first k symbols of a message and the first n of a word.
@@ -123,17 +145,26 @@ pub fn encodes_front(
     encodes(s, &message[..k], &mut symbols[..n], number, &after[..n])
 }
 
-// `decodes` with the first n symbols of a word and the first f of its marks.
-pub fn decodes_front(
+// Whether the first symbols of a word, with the first of its marks, are refused with this number by a check: the map then stays as the word does.
+pub fn refuses_front(
     s: Setting,
+    lent: Lent,
     symbols: &mut [u8],
-    n: usize,
     marks: &[u8],
-    f: usize,
-    wanted: Outcome,
+    number: u8,
     after: &[u8],
 ) -> bool
-    requires { ⌜ (n ≤ length (now symbols)) × (f ≤ length (now marks)) × (n ≤ length (now after)) ⌝ }
+    requires { ⌜ (lent .word ≤ length (now symbols)) × (lent .marks ≤ length (now marks)) × (lent .map ≤ 256) × (lent .word ≤ length (now after)) ⌝ }
 {
-    decodes(s, &mut symbols[..n], &marks[..f], wanted, &after[..n])
+    let mut map = [9u8; 256];
+    let old = [9u8; 256];
+    decodes(
+        s,
+        &mut symbols[..lent.word],
+        &marks[..lent.marks],
+        &mut map[..lent.map],
+        refused(number),
+        &after[..lent.word],
+        &old[..lent.map],
+    )
 }

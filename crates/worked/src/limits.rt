@@ -1,8 +1,9 @@
 // The limits of a setting, a length and a symbol: what the calls refuse with 1, 2 and 3, and leave as it was.
+ghost use mathlib.Core.Path.{_≡_};
 ghost use Prim.Native.Nat.{_≤_};
-use crate::expect::decodes_front;
+use crate::expect::Lent;
 use crate::expect::encodes_front;
-use crate::expect::refused;
+use crate::expect::refuses_front;
 use crate::expect::setting;
 use crate::say::say;
 use crate::slots::fresh_answers;
@@ -36,29 +37,37 @@ pub fn say_words() {
     // Catches a word taken as longer than it is.
     say(
         b"short word refused 2",
-        refuses_word(3, sent, 6, unmarked, 7, 2),
+        refuses_word(3, sent, unmarked, lent(6, 7, 7), 2),
     );
     // Catches marks taken as longer than they are.
     say(
         b"short marks refused 2",
-        refuses_word(3, sent, 7, unmarked, 6, 2),
+        refuses_word(3, sent, unmarked, lent(7, 6, 7), 2),
+    );
+    // Catches a map that is written beyond its end, and a symbol that is looked at before its length: both are wrong here.
+    say(
+        b"short map refused 2",
+        refuses_word(3, large, unmarked, lent(7, 7, 6), 2),
     );
     // Catches a symbol that is no element, which the field of 8 does not have.
     say(
         b"symbol 8 refused 3",
-        refuses_word(3, large, 7, unmarked, 7, 3),
+        refuses_word(3, large, unmarked, lent(7, 7, 7), 3),
     );
     // Catches a mark of 2 counted as two marks, or as one.
-    say(b"mark 2 refused 3", refuses_word(3, sent, 7, marks, 7, 3));
+    say(
+        b"mark 2 refused 3",
+        refuses_word(3, sent, marks, lent(7, 7, 7), 3),
+    );
     // Catches a length or a symbol that is looked at before the setting: all three are wrong here.
     say(
         b"setting first refused 1",
-        refuses_word(4, large, 6, unmarked, 7, 1),
+        refuses_word(4, large, unmarked, lent(6, 7, 7), 1),
     );
     // Catches a symbol that is looked at before the length: both are wrong here.
     say(
         b"length second refused 2",
-        refuses_word(3, large, 6, unmarked, 7, 2),
+        refuses_word(3, large, unmarked, lent(6, 7, 7), 2),
     );
 }
 
@@ -86,24 +95,33 @@ fn refuses_setting(m: usize, n: usize, r: usize, b: usize) -> bool
     let mut symbols = [1u8; 256];
     let zeros = [0u8; 256];
     let ones = [1u8; 256];
-    if !decodes_front(s, &mut symbols, n, &zeros, n, refused(1), &ones) {
+    if !refuses_front(s, lent(n, n, n), &mut symbols, &zeros, 1, &ones) {
         return false;
     }
     encodes_front(s, &ones, n - r, &mut symbols, n, 1, &ones)
 }
 
-// Whether 002's code over m refuses the first n symbols of a word with the first f of its marks.
-fn refuses_word(m: usize, word: [u8; 7], n: usize, marks: [u8; 7], f: usize, number: u8) -> bool
-    requires { ⌜ (n ≤ 7) × (f ≤ 7) ⌝ }
+fn lent(word: usize, marks: usize, map: usize) -> Lent
+    ensures { λ r. ⌜ (r .word ≡ word) × (r .marks ≡ marks) × (r .map ≡ map) ⌝ }
+{
+    Lent {
+        word: word,
+        marks: marks,
+        map: map,
+    }
+}
+
+// Whether 002's code over m refuses the first symbols of a word with the first of its marks.
+fn refuses_word(m: usize, word: [u8; 7], marks: [u8; 7], lent: Lent, number: u8) -> bool
+    requires { ⌜ (lent .word ≤ 7) × (lent .marks ≤ 7) × (lent .map ≤ 7) ⌝ }
 {
     let mut symbols = word;
-    decodes_front(
+    refuses_front(
         setting(m, 7, 4, 1),
+        lent,
         &mut symbols,
-        n,
         &marks,
-        f,
-        refused(number),
+        number,
         &word,
     )
 }

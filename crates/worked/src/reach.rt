@@ -14,31 +14,39 @@ use word::Setting;
 // What that word bears.
 pub fn say_reach() {
     // Catches a setting of 255 that is refused, and a codeword that is changed.
-    say(b"n 255 stands", word_answers(0, 0, done(0, 0, 0), sent()));
+    say(
+        b"n 255 stands",
+        word_answers(0, 0, done(0, 0, 0), sent(), [0; 255]),
+    );
     // Catches a decoder that stops short of r / 2 wrong symbols, check symbols among them.
     say(
         b"8 wrong come back",
-        word_answers(8, 0, done(8, 0, 24), sent()),
+        word_answers(8, 0, done(8, 0, 24), sent(), marked(8)),
     );
     // Catches a word beyond reach that is accepted, or written before it is refused. No codeword is within 8 places of this one.
     say(
         b"9 wrong refused 4",
-        word_answers(9, 0, refused(4), received(9)),
+        word_answers(9, 0, refused(4), received(9), [0; 255]),
     );
     // Catches a decoder that stops short of r marked symbols.
     say(
         b"16 marked come back",
-        word_answers(16, 16, done(0, 16, 48), sent()),
+        word_answers(16, 16, done(0, 16, 48), sent(), marked(16)),
+    );
+    // Catches a map that has every mark: half of the marked symbols are right here.
+    say(
+        b"right marks not mapped",
+        word_answers(8, 16, done(0, 16, 24), sent(), marked(8)),
     );
     // Catches a part that gets anything but the corrected word's message.
     say(
         b"part gets the message",
-        part_answers(8, done(8, 0, 24), message()),
+        part_answers(8, done(8, 0, 24), message(), marked(8)),
     );
     // Catches a part that is written though the word is refused.
     say(
         b"part refused 4 stays",
-        part_answers(9, refused(4), [9; 239]),
+        part_answers(9, refused(4), [9; 239], [0; 255]),
     );
     // Catches a part that is not of k symbols and is filled in front, or beyond its end.
     say(b"short part refused 2", short_part());
@@ -101,29 +109,65 @@ fn marked(count: usize) -> [u8; 255]
     struck([0; 255], count, 1)
 }
 
-// Whether the codeword with so many wrong and so many marked symbols has this outcome, and is this word afterwards.
-fn word_answers(wrong: usize, marks: usize, wanted: Outcome, after: [u8; 255]) -> bool
+// Whether the codeword with so many wrong and so many marked symbols has this outcome, and is this word afterwards, with this map.
+fn word_answers(
+    wrong: usize,
+    marks: usize,
+    wanted: Outcome,
+    after: [u8; 255],
+    changed: [u8; 255],
+) -> bool
     requires { ⌜ (wrong ≤ 16) × (marks ≤ 16) ⌝ }
 {
     let mut symbols = received(wrong);
     let marks = marked(marks);
-    decodes(longest(), &mut symbols, &marks, wanted, &after)
+    let mut map = [9u8; 255];
+    decodes(
+        longest(),
+        &mut symbols,
+        &marks,
+        &mut map,
+        wanted,
+        &after,
+        &changed,
+    )
 }
 
 // The same of decoding into a part, unmarked.
-fn part_answers(wrong: usize, wanted: Outcome, after: [u8; 239]) -> bool
+fn part_answers(wrong: usize, wanted: Outcome, after: [u8; 239], changed: [u8; 255]) -> bool
     requires { ⌜ wrong ≤ 16 ⌝ }
 {
     let symbols = received(wrong);
     let marks = [0u8; 255];
     let mut part = [9u8; 239];
-    decodes_part(longest(), &symbols, &marks, &mut part, wanted, &after)
+    let mut map = [9u8; 255];
+    decodes_part(
+        longest(),
+        &symbols,
+        &marks,
+        &mut part,
+        &mut map,
+        wanted,
+        &after,
+        &changed,
+    )
 }
 
 fn short_part() -> bool {
     let symbols = sent();
     let marks = [0u8; 255];
     let mut part = [9u8; 238];
+    let mut map = [9u8; 255];
     let after = [9u8; 238];
-    decodes_part(longest(), &symbols, &marks, &mut part, refused(2), &after)
+    let old = [9u8; 255];
+    decodes_part(
+        longest(),
+        &symbols,
+        &marks,
+        &mut part,
+        &mut map,
+        refused(2),
+        &after,
+        &old,
+    )
 }

@@ -21,20 +21,35 @@ pub fn say_code() {
     say_item(2, multiplies(8, 128, 2, 29));
     // Catches symbols in 002's order, lowest power first, and roots from a^0 where b = 1.
     say_item(3, encodes_example());
-    // Catches a decoder that mends one wrong symbol only, and bits counted as symbols.
+    // Catches a decoder that mends one wrong symbol only, bits counted as symbols, and a map in another order than the word.
     say_item(4, mends_example());
     // Catches roots from a^1 where b = 0.
     say_item(5, encodes_s());
     // Catches an error in the first place, the highest power, that is put elsewhere.
-    say_item(6, decodes_s([0, 3, 2], [0, 0, 0], done(1, 0, 1), [1, 3, 2]));
-    // Catches a wrong check symbol that is left as it came.
-    say_item(7, decodes_s([0, 0, 2], [0, 0, 0], done(1, 0, 1), [0, 0, 0]));
-    // Catches marks that are not used: the word of P7, with marks, is another codeword's.
-    say_item(8, decodes_s([0, 0, 2], [1, 1, 0], done(0, 2, 3), [1, 3, 2]));
-    // Catches an error place beyond n of a shortened word, and a refused word that is written.
-    say_item(9, decodes_s([0, 1, 2], [0, 0, 0], refused(4), [0, 1, 2]));
-    // Catches a marked symbol counted as free because it was right: three marks are more than r.
-    say_item(10, decodes_s([1, 3, 2], [1, 1, 1], refused(4), [1, 3, 2]));
+    say_item(
+        6,
+        decodes_s([0, 3, 2], [0, 0, 0], done(1, 0, 1), [1, 3, 2], [1, 0, 0]),
+    );
+    // Catches a wrong check symbol that is left as it came, or not mapped.
+    say_item(
+        7,
+        decodes_s([0, 0, 2], [0, 0, 0], done(1, 0, 1), [0, 0, 0], [0, 0, 1]),
+    );
+    // Catches marks that are not used: the word of P7, with marks, is another codeword's. Catches a map of unmarked changes only.
+    say_item(
+        8,
+        decodes_s([0, 0, 2], [1, 1, 0], done(0, 2, 3), [1, 3, 2], [1, 1, 0]),
+    );
+    // Catches an error place beyond n of a shortened word, a refused word that is written, and its map that is left as it was.
+    say_item(
+        9,
+        decodes_s([0, 1, 2], [0, 0, 0], refused(4), [0, 1, 2], [0, 0, 0]),
+    );
+    // Catches a marked symbol counted as free because it was right: three marks are more than r. Catches a map of the marks.
+    say_item(
+        10,
+        decodes_s([1, 3, 2], [1, 1, 1], refused(4), [1, 3, 2], [0, 0, 0]),
+    );
 }
 
 // The items of the interleavers and of the record.
@@ -76,8 +91,18 @@ fn encodes_example() -> bool {
 fn mends_example() -> bool {
     let mut symbols = [7u8, 3, 5, 1, 6, 4, 1];
     let marks = [0u8; 7];
+    let mut map = [9u8; 7];
     let after = [7u8, 3, 2, 5, 6, 4, 1];
-    decodes(example(), &mut symbols, &marks, done(2, 0, 4), &after)
+    let changed = [0u8, 0, 1, 1, 0, 0, 0];
+    decodes(
+        example(),
+        &mut symbols,
+        &marks,
+        &mut map,
+        done(2, 0, 4),
+        &after,
+        &changed,
+    )
 }
 
 fn encodes_s() -> bool {
@@ -87,10 +112,25 @@ fn encodes_s() -> bool {
     encodes(code_s(), &message, &mut symbols, 0, &after)
 }
 
-// Whether code S has this outcome for a received word, and leaves these symbols in it.
-fn decodes_s(received: [u8; 3], marks: [u8; 3], wanted: Outcome, after: [u8; 3]) -> bool {
+// Whether code S has this outcome for a received word, and leaves these symbols in it and this map, whose old marks must not show.
+fn decodes_s(
+    received: [u8; 3],
+    marks: [u8; 3],
+    wanted: Outcome,
+    after: [u8; 3],
+    changed: [u8; 3],
+) -> bool {
     let mut symbols = received;
-    decodes(code_s(), &mut symbols, &marks, wanted, &after)
+    let mut map = [9u8; 3];
+    decodes(
+        code_s(),
+        &mut symbols,
+        &marks,
+        &mut map,
+        wanted,
+        &after,
+        &changed,
+    )
 }
 
 fn spreads() -> bool {
