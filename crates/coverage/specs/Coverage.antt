@@ -6,6 +6,7 @@ use mathlib.Core.List.{List, []}
 use Prim.Native.Nat.{ℕ, _+_, _-_, _*_, _<_}
 use lib.ListN.{length, getD}
 use lib.Dec.{T}
+use Rattle.word.specs.Map.{changes}
 use Rattle.frame.specs.Frame.{allowedFrame}
 use Rattle.frame.specs.declared.setting.Framing.{Framing}
 use Rattle.record.specs.Record.{noted}
@@ -117,3 +118,9 @@ LineMarkedRunsWithin = (l : LineSetting) → LineAllowed l → (many : ℕ) → 
 pub record Beyond : Type 0 where
   pub frame : FrameMarkedRunsWithin
   pub line : LineMarkedRunsWithin
+
+-- ---- And the map of a frame within the bound tells exactly the slots that are not as they were sent (document 02, No. 6).
+
+abbrev pub FrameMapTells : Type 0
+FrameMapTells =
+    (f : Framing) → T (allowedFrame f) → (m : Message) (frame : Frame) (a : Answer) (arrived : Arrives f m frame) → Answers f frame a → a .map ≡ changes (frame .slots) (arrived .sent)

@@ -3,21 +3,23 @@
 -- Assumes nothing.
 use mathlib.Core.Path.{_≡_, refl, sym, ap, ap₂, _∙_}
 use mathlib.Core.Bool.{true}
-use mathlib.Core.List.{List, _++_, append-assoc}
-use mathlib.Core.Option.{some}
+use mathlib.Core.List.{List, [], _++_, append-assoc}
+use mathlib.Core.Option.{Option, some, Option·getD}
 use Prim.Native.Nat.{ℕ, zero, suc, _+_, _-_, _*_, _/_, _%_, _≤_, _<_}
-use native.Mathlib.Nat.{zero-mul, suc-mul}
+use native.Mathlib.Nat.{zero-mul, suc-mul, mod-lt, div-lt-iff-lt-mul, div-add-mod'}
 use native.Mathlib.Omega.{arith}
 use lib.ListN.{length, take, drop, replicate, length-drop, length-replicate}
 use lib.Seq.{take-add, take-at, drop-at, take-all, length-take-le, getD-take, getD-drop}
 use lib.Dec.{T, ltb, lt→ltb}
 use Rattle.algebra.specs.Tests.{at, below, both, below-all, below-at, below-append, first-none, passed}
-use Rattle.algebra.specs.Lists.{length-tabulate, joined, part, within}
+use Rattle.algebra.specs.Lists.{length-tabulate, getD-tabulate, tabulate-same, joined, joined-at, part, within}
 use Rattle.word.specs.Setting.{allowed, messageSize, allowed-yes}
+use Rattle.word.specs.Map.{changeOf, changeAt, changes}
+use Rattle.word.specs.Map.Laws.{length-changes, changes-at}
 use Rattle.word.specs.Code.{encoded}
 use Rattle.interleave.specs.Block.{transposed}
-use Rattle.interleave.specs.Slots.{wordIn, word-back}
-use Rattle.frame.specs.Frame.{wordSetting, areaSize, slotCount, allowedFrame, two, twoAt, trailer, areaSent, wordSent, slotsSent, trailerGood, correctedWord, isNone, messageOf, beyond, areaReceived, figuresReceived, mapReceived, payloadOf, numberOf}
+use Rattle.interleave.specs.Slots.{wordIn, word-rule, length-word, word-back, spread-rule}
+use Rattle.frame.specs.Frame.{wordSetting, areaSize, slotCount, allowedFrame, two, twoAt, trailer, areaSent, wordSent, slotsSent, trailerGood, correctedWord, isNone, messageOf, beyond, changesAt, areaReceived, figuresReceived, mapReceived, payloadOf, numberOf}
 use Rattle.frame.specs.Frame.Limits.{FrameAllowed, frame-kept, area-few}
 use Rattle.frame.specs.Frame.Trailer.{length-sent, sent-zero, sent-trailer, zeros-all, good-within, payload-there}
 use Rattle.frame.specs.Promises.{Receives, sends-once, receives-once}
@@ -28,7 +30,7 @@ use Rattle.frame.specs.declared.setting.Received.{Received}
 use Rattle.frame.specs.declared.setting.Verdict.the-variants.{Done}
 use Rattle.coverage.specs.Channel.{wordOf}
 use Rattle.coverage.specs.Frame.{Message, Fits, FrameSent, inFrame, Frame, Arrives, Answer, Answers, ComesBack}
-use Rattle.coverage.specs.Coverage.{FrameComesBack}
+use Rattle.coverage.specs.Coverage.{FrameComesBack, FrameMapTells}
 use Rattle.coverage.specs.Words.{picked, Came, came-in, word-corrected, encoded-code, encoded-size, encoded-message}
 
 -- ---- the parts of a list, joined again
@@ -166,6 +168,29 @@ module _ (f : Framing) (ok : T (allowedFrame f)) where
           joined-front k (messageOf f (frame .slots) (frame .marks)) area (f .depth) (λ w l. rw (word-found w l) (encoded-message (wordSetting f) code-allowed (message w) (message-size w l) (message-bytes w l)))
           ∙ take-all (areaSize f) area (omega (arith, area-size))
 
+      -- where a word was changed, its slot is not as it was sent
+      changed-at : (w i : ℕ) → w < f .depth → i < f .n → at (changesAt f (frame .slots) (frame .marks) w) i ≡ changeAt (frame .slots) (a .sent) (i * f .depth + w)
+      unfolding changesAt
+      changed-at w i l u =
+          let received : List ℕ = wordIn (f .depth) (f .n) (frame .slots) w in
+          ap (λ (o : Option (List ℕ)). at (changes received (Option·getD o [])) i) (word-found w l)
+          ∙ changes-at received (word w) i (rw (length-word (f .depth) (f .n) (frame .slots) w) u)
+          ∙ ap₂ changeOf (ap (λ (z : List ℕ). at z i) (word-rule (f .depth) (f .n) (frame .slots) w) ∙ getD-tabulate (f .n) _ i 0 u)
+          (sym (ap (λ (z : List ℕ). at z i) (slots-hold (a .sent) (a .sending) w l)) ∙ getD-tabulate (f .n) _ i 0 u)
+
+      changes-size : (w : ℕ) → w < f .depth → length (changesAt f (frame .slots) (frame .marks) w) ≡ f .n
+      unfolding changesAt
+      changes-size w l = length-changes (wordIn (f .depth) (f .n) (frame .slots) w) _ ∙ length-word (f .depth) (f .n) (frame .slots) w
+
+      map-found : mapReceived f (frame .slots) (frame .marks) ≡ changes (frame .slots) (a .sent)
+      unfolding mapReceived changes
+      map-found = spread-rule (f .depth) (f .n) _ ∙ rw (a .channel .slots-size) (tabulate-same (slotCount f) _ _ λ s h.
+          let some : 0 < f .depth = omega (arith, limits .some) in
+          let w : s % f .depth < f .depth = mod-lt s some in
+          let i : s / f .depth < f .n = div-lt-iff-lt-mul some .1 h in
+          joined-at (f .n) (changesAt f (frame .slots) (frame .marks)) (f .depth) changes-size (s % f .depth) (s / f .depth) w i
+          ∙ changed-at (s % f .depth) (s / f .depth) w i ∙ ap (changeAt (frame .slots) (a .sent)) (div-add-mod' s (f .depth)))
+
       payload-found : payloadOf answer area ≡ m .payload
       payload-found =
           let back : ℕ = length (m .payload) in
@@ -192,6 +217,9 @@ module _ (f : Framing) (ok : T (allowedFrame f)) where
             sequence = ap (λ (z : Received). z .sequence) x;
           }
 
+      pub map-tells : (r : Answer) → Answers f frame r → r .map ≡ changes (frame .slots) (a .sent)
+      map-tells r p = receives-once (p .promise) (answered-so (p .lent) (p .lent-map) (p .lent-size) (p .map-size)) .2 ∙ map-found
+
       -- and there is one, whatever area of A bytes and map of n·J marks are lent
       pub answered-in : (lent lent-map : List ℕ) → length lent ≡ areaSize f → length lent-map ≡ slotCount f
           → (r : Answer) × Receives f (frame .slots) (frame .marks) lent lent-map (r .received) (r .area) (r .map)
@@ -211,3 +239,6 @@ module _ (f : Framing) (ok : T (allowedFrame f)) where
 
 pub frame-comes-back : FrameComesBack
 frame-comes-back f ok m frame r a p = comes-back f ok m (a .sending .fits) frame a r p
+
+pub frame-map-tells : FrameMapTells
+frame-map-tells f ok m frame r a p = map-tells f ok m (a .sending .fits) frame a r p

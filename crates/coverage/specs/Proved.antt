@@ -1,7 +1,7 @@
--- Demand 3 holds, for two masts too.
+-- Demand 3 holds, for two masts too, and the maps tell what the channel did.
 -- Assumes nothing.
-use Rattle.coverage.specs.Coverage.{Demand3, TwoMasts, Beyond}
-use Rattle.coverage.specs.FrameBack.{frame-comes-back}
+use Rattle.coverage.specs.Coverage.{Demand3, TwoMasts, Beyond, FrameMapTells}
+use Rattle.coverage.specs.FrameBack.{frame-comes-back, frame-map-tells}
 use Rattle.coverage.specs.FramesBack.{frames-come-back, frames-run-come-back, no-two-frames-alike}
 use Rattle.coverage.specs.MastsBack.{two-masts-come-back, two-masts-noted, no-two-masts-alike, refused-takes-nothing}
 use Rattle.coverage.specs.LineBack.{line-comes-back, no-two-lines-alike}
@@ -25,3 +25,6 @@ two-masts = record { back = two-masts-come-back; noted-once = two-masts-noted; d
 
 pub marked-runs : Beyond
 marked-runs = record { frame = frame-marked-runs-within; line = line-marked-runs-within }
+
+pub maps-tell : FrameMapTells
+maps-tell = frame-map-tells
