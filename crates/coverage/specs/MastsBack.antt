@@ -2,14 +2,11 @@
 -- the same (document 02, No. 1).
 -- Assumes nothing.
 use mathlib.Core.Path.{_≡_, sym, ap, ap₂, _∙_}
-use mathlib.Core.Logic.{_⊎_, inl, inr, _≢_, ⊎-elim}
-use mathlib.Core.List.{List}
-use Prim.Native.Nat.{ℕ}
+use mathlib.Core.Logic.{_⊎_, _≢_, ⊎-elim}
 use native.Mathlib.Decide.{decLe}
 use native.Mathlib.Omega.{arith}
 use lib.Dec.{T}
 use Rattle.record.specs.Record.{noted}
-use Rattle.record.specs.declared.Record.{Record}
 use Rattle.frame.specs.Frame.{ReceiveOutcome, allowedFrame}
 use Rattle.frame.specs.declared.setting.Framing.{Framing}
 use Rattle.link.specs.Masts.{Copy, leftOf, alone, damage, MastsOutcome, giving, choosing, receivingMasts, HearMastsOutcome, hearingMasts}

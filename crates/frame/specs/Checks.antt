@@ -1,7 +1,7 @@
 -- The checks that stand before a frame is sent or received (document 01, Numbers a call can answer): what is known once none has failed, and
 -- which calls none fails.
 -- Assumes nothing.
-use mathlib.Core.Path.{_≡_, refl, sym}
+use mathlib.Core.Path.{_≡_, refl}
 use mathlib.Core.Bool.{true, false}
 use mathlib.Core.List.{List}
 use Prim.Native.Nat.{ℕ, _+_, _-_, _≤_, _<_}

@@ -2,7 +2,7 @@
 -- Assumes nothing.
 use mathlib.Core.Path.{_≡_, refl, sym, ap, _∙_}
 use mathlib.Core.Bool.{Bool, true, false}
-use mathlib.Core.List.{List, []}
+use mathlib.Core.List.{List}
 use mathlib.Core.Option.{Option, some, none}
 use Prim.Native.Nat.{ℕ, zero, suc, _+_, _*_, _≤_, _<_}
 use native.Mathlib.Nat.{not-suc-le-zero, mul-le-mul-right}
@@ -14,7 +14,7 @@ use lib.ListN.{length, getD, set, take, replicate, length-set, length-replicate}
 use lib.Seq.{ext-getD, length-take-le, getD-take, getD-set-same, getD-set-other}
 use lib.Dec.{T, eqb, ltb}
 use Rattle.algebra.specs.Tests.{at, if_then_else_, below, below-at, below-all, first-none, first-is}
-use Rattle.algebra.specs.Lists.{tabulate, tabulated, within, putPart, put-part-size, Written, written-none, written-same, written-more, written-all}
+use Rattle.algebra.specs.Lists.{tabulated, within, putPart, put-part-size, Written, written-none, written-same, written-more, written-all}
 use Rattle.word.specs.Setting.{messageSize, allowed-yes}
 use Rattle.word.specs.Map.{changes, unchanged}
 use Rattle.word.specs.Map.Laws.{length-changes, changes-no-bits}
@@ -27,7 +27,6 @@ use Rattle.word.specs.declared.Decoded.{Decoded}
 use Rattle.interleave.specs.Slots.{TakesWord, PutsWord, wordIn, length-word, word-below}
 use Rattle.frame.specs.Frame.{wordSetting, areaSize, slotCount, isNone, receivedWord, receivedMarks, correctedWord, messageOf, figuresAt, changesAt, beyond, areaReceived, figuresReceived, mapReceived}
 use Rattle.frame.specs.Frame.Limits.{FrameAllowed}
-use Rattle.frame.specs.Checks.{ReceiveChecked}
 use Rattle.frame.specs.Mapping.{Blank, Spare, Mapping, zeros-at, mapping-none, mapping-more, mapping-all}
 use Rattle.frame.specs.declared.setting.Framing.{Framing}
 use Rattle.frame.specs.declared.receiver.Found.{Found}

@@ -1,7 +1,7 @@
 -- How a word is corrected: what the steps have made, what they promise together, and the laws for each way out.
 -- Assumes nothing.
 use mathlib.Core.Path.{_≡_, refl, sym, ap, _∙_, subst}
-use mathlib.Core.Bool.{Bool, true, false}
+use mathlib.Core.Bool.{true, false}
 use mathlib.Core.Logic.{_≢_}
 use mathlib.Core.List.{List, _++_}
 use mathlib.Core.Option.{some, none}
@@ -10,7 +10,7 @@ use native.Mathlib.Omega.{arith}
 use lib.Dec.{T}
 use lib.ListN.{length, take}
 use lib.Seq.{take-length, take-take, take-append-seam}
-use Rattle.algebra.specs.Tests.{at, total, below, below-at}
+use Rattle.algebra.specs.Tests.{at}
 use Rattle.algebra.specs.Peel.{Rep}
 use Rattle.algebra.specs.Horner.{coef}
 use Rattle.field.specs.Elements.{K}
@@ -20,7 +20,6 @@ use Rattle.word.specs.Word.{errors, marked, bits}
 use Rattle.word.specs.Map.{changes}
 use Rattle.word.specs.Map.Laws.{changes-front}
 use Rattle.word.specs.Codeword.{qualifies, Codeword, in-reach, is-in-reach}
-use Rattle.word.specs.Distance.{errors-self, bits-self}
 use Rattle.word.specs.Code.{corrected}
 use Rattle.word.specs.Code.Laws.{corrected-only, corrected-none}
 use Rattle.word.specs.Answers.{numberOf, figures}

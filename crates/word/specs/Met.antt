@@ -10,7 +10,7 @@ use Rattle.algebra.specs.Refusal.{new, kept}
 use Rattle.word.specs.Setting.{messageSize}
 use Rattle.word.specs.Map.{changes, unchanged}
 use Rattle.word.specs.Code.{encoded, corrected}
-use Rattle.word.specs.Answers.{numberOf, figuresOf, encodedNumber, noFigures, EncodeOutcome, encodeOutcome, decodeOutcome, refused, encodeRefusal, encoding, figures, placed, answering, decodeRefusal, decoding, partRefusal, decodingPart}
+use Rattle.word.specs.Answers.{numberOf, figuresOf, encodedNumber, noFigures, EncodeOutcome, decodeOutcome, refused, encodeRefusal, encoding, figures, placed, answering, decodeRefusal, decoding, partRefusal, decodingPart}
 use Rattle.word.specs.Promises.{Encodes, Decodes, DecodesPart, encodes-once}
 use Rattle.word.specs.Refusals.{MessageChecked, message-passes, Checked, passes, part-passes}
 use Rattle.word.specs.declared.Setting.{Setting}

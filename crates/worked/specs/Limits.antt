@@ -1,7 +1,7 @@
 -- Document 01, "Worked table", Limits: of every call that takes such a setting, whatever else it is handed.
 -- Assumes nothing.
 use mathlib.Core.Path.{_≡_, refl, sym, ap, _∙_}
-use mathlib.Core.Bool.{Bool, true, false}
+use mathlib.Core.Bool.{true, false}
 use mathlib.Core.List.{List}
 use mathlib.Core.Logic.{_≢_}
 use mathlib.Core.Option.{Option, some, none}

@@ -5,7 +5,7 @@ use mathlib.Core.Path.{_≡_, refl, sym, ap, _∙_}
 use mathlib.Core.Bool.{Bool, true, false, _&&_, not}
 use mathlib.Core.Logic.{_≢_}
 use mathlib.Core.List.{List}
-use Prim.Native.Nat.{ℕ, zero, suc, _+_, _/_, _≤_, _<_}
+use Prim.Native.Nat.{ℕ, zero, suc, _<_}
 use native.Mathlib.Decide.{ℕ-discrete}
 use native.Mathlib.Omega.{arith}
 use borrow.Author.Tests.{eq-eqb, ne-eqb}
@@ -17,7 +17,7 @@ use lib.Seq.{ext-getD, getD-take}
 use Rattle.algebra.specs.Xor.{_⊕_, xor-same}
 use Rattle.algebra.specs.Tests.{at, total, oneIf, below, below-all, total-same}
 use Rattle.algebra.specs.Lists.{length-tabulate, getD-tabulate, tabulate-same, tabulated}
-use Rattle.word.specs.Figures.{errorOf, errorAt, errors, bitsAt, bits}
+use Rattle.word.specs.Figures.{errorOf, errors, bitsAt, bits}
 use Rattle.word.specs.Map.{changeOf, changeAt, changes, unchanged}
 
 -- ---- one place
