@@ -66,11 +66,6 @@ module _ (s : Setting) (received marks : List ℕ) (place : List ℕ → List �
     answering-none u g m = rw m (sym (ap (placed place marks received lent) g) ∙ looked-at)
 
 module _ (s : Setting) (received marks map : List ℕ) where
-  pub decodes-by : (z : ℕ) (d : Decoded) (left left-map : List ℕ) → z ≡ decodeRefusal s received marks map
-      → decodeOutcome d left left-map ≡ answering s received marks z (λ c. c) received map → Decodes s received marks map d left left-map
-  unfolding decoding
-  decodes-by z d left left-map e p = record { outcome = p ∙ ap (λ (y : ℕ). answering s received marks y (λ c. c) received map) e }
-
   pub decode-refused : (k : ℕ) (d : Decoded) → k ≡ decodeRefusal s received marks map → 0 < k → Refuses k d → Decodes s received marks map d received map
   unfolding decoding
   decode-refused k d e h r = record { outcome = answering-refused s received marks _ received map k _ d e h r }
@@ -86,11 +81,6 @@ module _ (s : Setting) (received marks map : List ℕ) where
     decode-lost u g m = record { outcome = answering-none s received marks _ received map _ (passes s received marks map l c) u g m }
 
 module _ (s : Setting) (received marks part map : List ℕ) where
-  pub part-by : (z : ℕ) (d : Decoded) (left left-map : List ℕ) → z ≡ partRefusal s received marks part map
-      → decodeOutcome d left left-map ≡ answering s received marks z (take (messageSize s)) part map → DecodesPart s received marks part map d left left-map
-  unfolding decodingPart
-  part-by z d left left-map e p = record { outcome = p ∙ ap (λ (y : ℕ). answering s received marks y (take (messageSize s)) part map) e }
-
   pub part-refused : (k : ℕ) (d : Decoded) → k ≡ partRefusal s received marks part map → 0 < k → Refuses k d → DecodesPart s received marks part map d part map
   unfolding decodingPart
   part-refused k d e h r = record { outcome = answering-refused s received marks _ part map k _ d e h r }
