@@ -1,3 +1,4 @@
 pub mod Receiver
 pub mod Masts
+pub mod Replay
 pub mod Promises

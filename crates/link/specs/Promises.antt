@@ -10,7 +10,9 @@ use Rattle.record.specs.Promises.{Notes}
 use Rattle.link.specs.Receiver.{HearOutcome, hearOutcome, hearing}
 use Rattle.link.specs.Masts.{Copy, alone, Left, leftBy, MastsOutcome, choosing, chosenOutcome, Chooses, receivingMasts, HearMastsOutcome, hearMastsOutcome, hearingMasts, handedBackMasts, payloadOfUsed, usedCopy}
 use Rattle.link.specs.Masts.Laws.{own-left}
+use Rattle.link.specs.Replay.{ReplayOutcome, replayOutcome, replaying}
 use Rattle.link.specs.declared.choice.Chosen.{Chosen}
+use Rattle.link.specs.declared.replaying.Replayed.{Replayed}
 use Rattle.frame.specs.declared.setting.Framing.{Framing}
 use Rattle.frame.specs.declared.setting.Received.{Received}
 use Rattle.record.specs.declared.Record.{Record}
@@ -41,6 +43,22 @@ pub received-and-noted : {before : Record} {f : Framing} {slots marks area map :
     → Hears before f slots marks area map answer next left left-map
 unfolding hearing
 received-and-noted e k n = record { outcome = rw (sym (e .outcome), n .outcome, k) }
+
+-- ---- a morning's frames
+
+-- `replay` gives these answers and this record, and `replay_in` leaves the record where the old one stood
+pub record Replays (before : Record) (f : Framing) (slots marks areas maps : List ℕ) (answer : Replayed) (next : Record) (left left-maps : List ℕ) : Type 0 where
+  pub outcome : replayOutcome answer next left left-maps ≡ replaying before f slots marks areas maps
+
+pub replays-once : {before : Record} {f : Framing} {slots marks areas maps : List ℕ} {r s : Replayed} {n m : Record} {x y u v : List ℕ}
+    → Replays before f slots marks areas maps r n x u → Replays before f slots marks areas maps s m y v → (r ≡ s) × (n ≡ m) × (x ≡ y) × (u ≡ v)
+replays-once p q =
+    let same = p .outcome ∙ sym (q .outcome) in (
+      λ i. record { number = same i .number; frames = same i .frames; results = same i .results },
+      ap (λ (o : ReplayOutcome). o .next) same,
+      ap (λ (o : ReplayOutcome). o .areas) same,
+      ap (λ (o : ReplayOutcome). o .maps) same,
+    )
 
 -- ---- two masts
 

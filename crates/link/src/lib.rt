@@ -1,11 +1,12 @@
 // The link: document 01, sections Block interleaver and frame, and Receiver's record. A payload and its sequence number are sent as one
 // frame of interleaved words; a received frame is decoded into a lent message area, which then holds the payload; and what each frame was
-// answered is noted in the receiver's record. Two receivers may hear one frame: document 02, No. 1, Two masts. What each call promises stands in
-// specs/Promises.antt, and in those of frame and record.
+// answered is noted in the receiver's record. Frames that lie end to end are heard in one call: document 02, No. 2, A morning's frames at once. Two
+// receivers may hear one frame: No. 1, Two masts. What each call promises stands in specs/Promises.antt, and in those of frame and record.
 mod choice;
 mod hearing;
 mod masts;
 mod part;
+mod replaying;
 
 // Frames.
 pub use frame::Framing;
@@ -30,6 +31,12 @@ pub use record::standing_of;
 pub use hearing::Heard;
 pub use hearing::hear;
 pub use hearing::hear_in;
+
+// A morning's frames at once.
+pub use replaying::ReplayHeard;
+pub use replaying::Replayed;
+pub use replaying::replay;
+pub use replaying::replay_in;
 
 // Two masts.
 pub use choice::Chosen;
