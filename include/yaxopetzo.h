@@ -25,11 +25,12 @@ extern "C" {
 /*
  * The numbers that a call answers, checked in the order 1, 2, 3, 6, 4, 5, 8; on the cross line 7 comes before 4.
  * Under 1, 2, 3 and 6 every lent buffer and record stays as it was, but for the second area and map of two masts, which are
- * left as their own copy's answer says. What 4, 5, 7 and 8 leave stands at each call.
+ * left as their own copy's answer says. What 4, 5, 7 and 8 leave stands at each call. A replay answers a number for the whole
+ * call, and one for each frame that speaks of this frame's own area and map.
  * Under any answer but 0 the returned figures, sequence number, mast, byte and mark are 0.
  */
 #define YAXO_DONE 0         /* the result is there */
-#define YAXO_SETTING 1      /* a limit of the setting is broken, or no number of steps reaches the position */
+#define YAXO_SETTING 1      /* a limit of the setting is broken, no number of steps reaches the position, or over 64 frames */
 #define YAXO_LENGTH 2       /* a buffer has not the length that the setting asks for */
 #define YAXO_SYMBOL 3       /* a symbol is 2^m or more, or a mark is above 1 */
 #define YAXO_BEYOND_REACH 4 /* no codeword has 2e + f <= r */
@@ -288,8 +289,8 @@ uint8_t yaxo_record_standing(uint8_t accepted, uint16_t last, uint16_t sequence)
 /*
  * Notes what a frame was answered: 0 counts it as newer, repeat or older, and only newer moves `last`; 4 and 5 count it as
  * refused; every other number leaves the record as it was. yaxo_record_note gives the record after it,
- * yaxo_record_note_in updates the lent one. yaxo_hear, yaxo_hear_in, yaxo_masts_hear and yaxo_masts_hear_in do it
- * themselves.
+ * yaxo_record_note_in updates the lent one. The calls that hear, yaxo_hear, yaxo_replay, yaxo_masts_hear and those of the
+ * same names with _in, do it themselves.
  */
 yaxo_record yaxo_record_note(yaxo_record before, uint8_t answer, uint16_t sequence);
 void yaxo_record_note_in(yaxo_record *record, uint8_t answer, uint16_t sequence);
@@ -312,6 +313,51 @@ yaxo_received yaxo_hear_in(yaxo_record *record, yaxo_framing framing,
                            const uint8_t *marks, size_t marks_length,
                            uint8_t *area, size_t area_length,
                            uint8_t *map, size_t map_length);
+
+/* ---- Replay ------------------------------------------------------------------------------------------------------ */
+
+/*
+ * Frames of one setting that were kept, heard at once. Their slots, marks, areas and maps lie end to end, frame 0 first: for
+ * N frames there are N * n * depth slots, as many marks and bytes of maps, and areas of N * A bytes. N is 0 to 64, so that
+ * slots, marks and maps have at most 64 * 4080 bytes each, and the areas 64 * 4048.
+ */
+#define YAXO_REPLAY_MOST 64
+
+/*
+ * What a replay answers: the whole call's number, and what each frame was answered. It has 7696 bytes. The payload of frame i
+ * starts at areas + i * A + results[i].start: each frame counts from its own area. No place of the results says 0 but that of
+ * an accepted frame: those past the frames say 2, and where the whole call is refused all say its number, with all else 0.
+ */
+typedef struct yaxo_replayed {
+    uint8_t answer; /* 0, 1 or 2 */
+    size_t frames;  /* N; 0 unless the answer is 0 */
+    yaxo_received results[YAXO_REPLAY_MOST];
+} yaxo_replayed;
+
+/* The record after a replay, and what it was answered. */
+typedef struct yaxo_replay_heard {
+    yaxo_record next;
+    yaxo_replayed answer;
+} yaxo_replay_heard;
+
+/*
+ * Hears up to 64 frames into one record: what each is answered, its area and its map, and the record after the last, are those
+ * of one yaxo_hear for each frame in order. slots and marks are only read; areas and maps are written, frame by frame.
+ * Answers 0, also for no frames; 1 for the setting or for more slots than 64 frames have; 2 for slots that are no whole
+ * number of frames, or for marks, areas or maps that are not as long as these frames ask. Both come before any frame is read,
+ * and areas, maps and record stay. A refused frame does not stop the rest: 3 leaves its own area and map as they were, and 4
+ * and 5 leave zeros there. yaxo_replay gives the record after it, yaxo_replay_in updates the lent one.
+ */
+yaxo_replay_heard yaxo_replay(yaxo_record before, yaxo_framing framing,
+                              const uint8_t *slots, size_t slots_length,
+                              const uint8_t *marks, size_t marks_length,
+                              uint8_t *areas, size_t areas_length,
+                              uint8_t *maps, size_t maps_length);
+yaxo_replayed yaxo_replay_in(yaxo_record *record, yaxo_framing framing,
+                             const uint8_t *slots, size_t slots_length,
+                             const uint8_t *marks, size_t marks_length,
+                             uint8_t *areas, size_t areas_length,
+                             uint8_t *maps, size_t maps_length);
 
 /* ---- Two masts --------------------------------------------------------------------------------------------------- */
 
