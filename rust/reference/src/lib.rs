@@ -17,5 +17,6 @@ pub mod line;
 pub mod masts;
 pub mod noise;
 pub mod record;
+pub mod replay;
 pub mod search;
 pub mod word;
