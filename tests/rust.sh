@@ -20,7 +20,7 @@ quietly() { # WHAT COMMAND..
 }
 
 # The calls that take and give a record by value are not needed: the face has those that are lent one.
-for call in $(grep -o '\byaxo_[a-z_]*(' include/yaxopetzo.h | tr -d '(' | sort -u | grep -vxE 'yaxo_hear|yaxo_masts_hear|yaxo_record_note'); do
+for call in $(grep -o '\byaxo_[a-z_]*(' include/yaxopetzo.h | tr -d '(' | sort -u | grep -vxE 'yaxo_hear|yaxo_masts_hear|yaxo_record_note|yaxo_replay'); do
   grep -q "fn $call(" rust/src/ffi/header.rs || { echo "the Rust face lacks $call"; exit 1; }
 done
 

@@ -7,11 +7,12 @@ use crate::ffi;
 /// Why a call refused. The numbers are those of documents 01 and 02; 0 is no refusal.
 ///
 /// Under 1, 2, 3 and 6 every lent buffer stays as it was, but for the second area and map of [two masts](crate::masts),
-/// which are left as their own copy's answer says. What 4, 5, 7 and 8 leave is said at each call.
+/// which are left as their own copy's answer says. What 4, 5, 7 and 8 leave is said at each call. What a frame of a
+/// [replay](crate::replay) is answered speaks of its own area and map.
 #[derive(Clone, Copy, Debug, PartialEq, Eq, Hash)]
 #[repr(u8)]
 pub enum Refusal {
-    /// A limit of the setting is broken, or no number of steps reaches the position.
+    /// A limit of the setting is broken, no number of steps reaches the position, or a replay has more than 64 frames.
     Setting = 1,
     /// A buffer has not the length that the setting asks for.
     Length = 2,

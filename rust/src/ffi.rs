@@ -13,6 +13,7 @@ use crate::masts::Heard;
 
 pub use header::{
     Chosen, Code, CrossReceived, Decoded, Figures, Framing, Line, LineReceived, LineSent, Ready, Received, Record,
+    Replayed,
 };
 
 pub fn word_is_allowed(code: Code) -> bool {
@@ -172,6 +173,26 @@ pub fn record_standing(accepted: u8, last: u16, sequence: u16) -> u8 {
 pub fn record_note_in(record: &mut Record, answer: u8, sequence: u16) {
     // Sound: one record, lent to this call alone.
     unsafe { header::yaxo_record_note_in(record, answer, sequence) }
+}
+
+pub fn replay_in(
+    record: &mut Record,
+    framing: Framing,
+    slots: &[u8],
+    marks: &[u8],
+    areas: &mut [u8],
+    maps: &mut [u8],
+) -> Replayed {
+    let mut out = Replayed { answer: 0, frames: 0, results: [Received::default(); 64] };
+    let (bytes, size) = (slots.as_ptr(), slots.len());
+    let (trust, trust_size) = (marks.as_ptr(), marks.len());
+    let (lent, a) = (areas.as_mut_ptr(), areas.len());
+    let (changed, map_size) = (maps.as_mut_ptr(), maps.len());
+    // Sound: the result's place, a record and four slices; what is written of them overlaps nothing.
+    unsafe {
+        header::yaxo_replay_in(&mut out, record, framing, bytes, size, trust, trust_size, lent, a, changed, map_size)
+    };
+    out
 }
 
 pub fn masts_receive(framing: Framing, first: &mut Heard, second: &mut Heard) -> Chosen {

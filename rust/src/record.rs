@@ -2,8 +2,9 @@
 
 use crate::ffi;
 
-/// What a receiver has heard. Lend it to every call of [`hear`](crate::frame::Setting::hear) or, for two receivers with
-/// one record, [`hear_masts`](crate::frame::Setting::hear_masts).
+/// What a receiver has heard. Lend it to every call of [`hear`](crate::frame::Setting::hear), of
+/// [`replay`](crate::frame::Setting::replay) or, for two receivers with one record,
+/// [`hear_masts`](crate::frame::Setting::hear_masts).
 ///
 /// A count at 4294967295 stays there.
 #[derive(Clone, Copy, Debug, Default, PartialEq, Eq, Hash)]
@@ -50,7 +51,8 @@ impl Record {
 
     /// Notes what a frame was answered: 0 counts it as newer, repeat or older, 4 and 5 as refused, others not at all.
     ///
-    /// [`hear`](crate::frame::Setting::hear) and [`hear_masts`](crate::frame::Setting::hear_masts) do it themselves.
+    /// [`hear`](crate::frame::Setting::hear), [`replay`](crate::frame::Setting::replay) and
+    /// [`hear_masts`](crate::frame::Setting::hear_masts) do it themselves.
     pub fn note(&mut self, answer: u8, sequence: u16) {
         self.lend(|lent| ffi::record_note_in(lent, answer, sequence));
     }

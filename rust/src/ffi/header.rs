@@ -1,14 +1,14 @@
 //! `include/yaxopetzo.h` in Rust: its structs, field by field, and its declarations.
 //!
-//! Three calls of the header are left out, those that take and give a record by value: the face lends one.
+//! Four calls of the header are left out, those that take and give a record by value: the face lends one.
 //!
-//! Five calls give more than 16 bytes (`record_fresh`, `frame_receive`, `hear_in`, `masts_receive`, `masts_hear_in`). On
-//! x86-64 C hands over the result's place as a hidden first argument. Here it is a plain first argument, which is the same
-//! call: the archive that `tools/native-archive` makes for another processor has it so too, where C's own rule would be
-//! another.
+//! Six calls give more than 16 bytes (`record_fresh`, `frame_receive`, `hear_in`, `replay_in`, `masts_receive`,
+//! `masts_hear_in`). On x86-64 C hands over the result's place as a hidden first argument. Here it is a plain first
+//! argument, which is the same call: the archive that `tools/native-archive` makes for another processor has it so too,
+//! where C's own rule would be another.
 
 /// `yaxo_figures`.
-#[derive(Clone, Copy, Default)]
+#[derive(Clone, Copy, Debug, Default, PartialEq, Eq)]
 #[repr(C)]
 pub struct Figures {
     pub errors: u16,
@@ -77,7 +77,7 @@ pub struct Framing {
 }
 
 /// `yaxo_received`.
-#[derive(Default)]
+#[derive(Clone, Copy, Debug, Default, PartialEq, Eq)]
 #[repr(C)]
 pub struct Received {
     pub answer: u8,
@@ -98,6 +98,14 @@ pub struct Record {
     pub repeat: u32,
     pub older: u32,
     pub refused: u32,
+}
+
+/// `yaxo_replayed`.
+#[repr(C)]
+pub struct Replayed {
+    pub answer: u8,
+    pub frames: usize,
+    pub results: [Received; 64],
 }
 
 /// `yaxo_chosen`.
@@ -211,6 +219,19 @@ extern "C" {
     pub fn yaxo_record_fresh(out: *mut Record);
     pub fn yaxo_record_standing(accepted: u8, last: u16, sequence: u16) -> u8;
     pub fn yaxo_record_note_in(record: *mut Record, answer: u8, sequence: u16);
+    pub fn yaxo_replay_in(
+        out: *mut Replayed,
+        record: *mut Record,
+        framing: Framing,
+        slots: *const u8,
+        s: usize,
+        marks: *const u8,
+        marks_s: usize,
+        areas: *mut u8,
+        a: usize,
+        maps: *mut u8,
+        maps_s: usize,
+    );
     pub fn yaxo_masts_receive(
         out: *mut Chosen,
         framing: Framing,
