@@ -28,6 +28,9 @@ use crate::ffi;
 use crate::frame::{Frame, Refused, Setting};
 use crate::record::Record;
 
+#[cfg(all(test, feature = "std"))]
+mod places;
+
 /// The most frames of a replay.
 pub const MOST: usize = 64;
 
