@@ -36,7 +36,7 @@ pub fn accepted(frame: Frame, end: usize) -> plain::Frame {
 }
 
 /// The reference's form of what the face answers. The payload's place in the area is compared too.
-fn heard(s: Setting, record: &mut Record, slots: &[u8], marks: &[u8], area: &mut [u8], map: &mut [u8]) -> Answer {
+pub fn heard(s: Setting, record: &mut Record, slots: &[u8], marks: &[u8], area: &mut [u8], map: &mut [u8]) -> Answer {
     let end = end(area);
     s.hear(record, slots, marks, area, map).map(|frame| accepted(frame, end)).map_err(numbered)
 }

@@ -13,6 +13,7 @@ mod masts;
 mod outside;
 mod record;
 mod refusals;
+mod replay;
 mod same;
 mod small;
 mod word;
