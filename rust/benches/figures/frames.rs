@@ -58,17 +58,17 @@ fn measured(name: &str, s: Setting, framers: &mut [Box<dyn Framer>], damage: Dam
 }
 
 /// One frame on its way, as the reference makes it.
-struct Parcel {
+pub struct Parcel {
     payload: Vec<u8>,
     sequence: u16,
-    area: Vec<u8>,
+    pub area: Vec<u8>,
     sent: Vec<u8>,
-    received: Vec<u8>,
-    marks: Vec<u8>,
+    pub received: Vec<u8>,
+    pub marks: Vec<u8>,
 }
 
 impl Parcel {
-    fn new(noise: &mut Noise, s: Setting, damage: Damage) -> Parcel {
+    pub fn new(noise: &mut Noise, s: Setting, damage: Damage) -> Parcel {
         let judge = Judge { depth: s.depth, n: s.n, r: s.r, b: s.b };
         let (payload, sequence) = (noise.bytes(s.area() - 4), noise.number() as u16);
         let mut sent = vec![0; s.slots()];

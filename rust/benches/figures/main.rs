@@ -13,6 +13,7 @@ mod frames;
 #[cfg(feature = "libfec")]
 mod libfec;
 mod moves;
+mod replays;
 mod table;
 mod timing;
 mod traffic;
@@ -25,6 +26,8 @@ fn main() {
     words::table(only);
     println!();
     frames::table(only);
+    println!();
+    replays::table(only);
     println!();
     crossing::table(only);
     println!();

@@ -19,12 +19,17 @@ pub fn wanted(only: Option<&str>, name: &str) -> bool {
 pub fn row(name: &str, message: Option<usize>, work: &mut [Work]) {
     let times = medians(work);
     let (ours, plain) = (times[0], times[1]);
-    let rate = message.map_or("-".into(), |bytes| format!("{:.1}", 1000.0 * bytes as f64 / ours));
+    let rate = message.map_or("-".into(), |bytes| rate(bytes, ours));
     let (fec, ratio) = match times.get(2) {
         Some(&fec) => (spoken(fec), format!("{:.2}", ours / fec)),
         None => ("-".into(), "-".into()),
     };
     println!("| {name} | {} | {rate} | {fec} | {} | {ratio} | {:.2} |", spoken(ours), spoken(plain), ours / plain);
+}
+
+/// MB/s of so many bytes in a time.
+pub fn rate(bytes: usize, nanoseconds: f64) -> String {
+    format!("{:.1}", 1000.0 * bytes as f64 / nanoseconds)
 }
 
 /// A time in the unit that suits it.

@@ -1,0 +1,95 @@
+//! The table of replays: 64 full frames by one call, beside a call of `hear` for each of them.
+
+use std::hint::black_box;
+
+use reference::noise::Noise;
+use yaxopetzo::frame::Setting;
+use yaxopetzo::record::Record;
+use yaxopetzo::replay::MOST;
+
+use crate::frames::Parcel;
+use crate::table::{rate, spoken, wanted};
+use crate::timing::{medians, Work};
+use crate::traffic::{damage, Damage, Kind};
+
+/// What is done to each word of a frame.
+const DAMAGES: [Damage; 3] = [
+    damage("clean", 0, 0, Kind::Mend),
+    damage("4 errors a word", 0, 4, Kind::Mend),
+    damage("8 errors a word", 0, 8, Kind::Mend),
+];
+
+pub fn table(only: Option<&str>) {
+    println!("| {MOST} frames | Replay | MB/s of message | {MOST} calls of hear | Replay / hear |");
+    println!("|---|---|---|---|---|");
+    let s = Setting { depth: 4, n: 64, r: 16, b: 0 };
+    for damage in DAMAGES {
+        let name = format!("replay, {} x {}, r = {}, {}", s.depth, s.n, s.r, damage.name);
+        if wanted(only, &name) {
+            measured(&name, s, damage);
+        }
+    }
+}
+
+/// One row: both ways over the same frames.
+fn measured(name: &str, s: Setting, damage: Damage) {
+    let ways: [fn(&mut Morning) -> usize; 2] = [Morning::at_once, Morning::one_by_one];
+    let mut work: Vec<Work> = Vec::new();
+    for way in ways {
+        let mut morning = Morning::tried(s, damage, way);
+        work.push(Box::new(move |_, count| {
+            for _ in 0..count {
+                black_box(way(&mut morning));
+                black_box((&morning.areas, &morning.maps));
+            }
+        }));
+    }
+    let times = medians(&mut work);
+    let (ours, calls) = (times[0], times[1]);
+    let rate = rate(MOST * (s.area() - 4), ours);
+    println!("| {name} | {} | {rate} | {} | {:.2} |", spoken(ours), spoken(calls), ours / calls);
+}
+
+/// Frames end to end, and what is lent for them.
+struct Morning {
+    setting: Setting,
+    slots: Vec<u8>,
+    marks: Vec<u8>,
+    areas: Vec<u8>,
+    maps: Vec<u8>,
+}
+
+impl Morning {
+    /// The frames of a row. A way that does not hear them all would make its time worthless.
+    fn tried(s: Setting, damage: Damage, way: fn(&mut Morning) -> usize) -> Morning {
+        let mut noise = Noise::new(75 + damage.wrong as u64);
+        let parcels: Vec<Parcel> = (0..MOST).map(|_| Parcel::new(&mut noise, s, damage)).collect();
+        let joined = |part: fn(&Parcel) -> &[u8]| parcels.iter().flat_map(part).copied().collect::<Vec<u8>>();
+        let (slots, marks) = (joined(|parcel| &parcel.received), joined(|parcel| &parcel.marks));
+        let (areas, maps) = (vec![0; MOST * s.area()], vec![0; MOST * s.slots()]);
+        let mut morning = Morning { setting: s, slots, marks, areas, maps };
+        assert_eq!(way(&mut morning), MOST);
+        assert!(morning.areas == joined(|parcel| &parcel.area));
+        morning
+    }
+
+    /// One call for them all; gives how many were accepted.
+    fn at_once(&mut self) -> usize {
+        let Morning { setting, slots, marks, areas, maps } = self;
+        match setting.replay(&mut Record::fresh(), slots, marks, areas, maps) {
+            Ok(replay) => replay.iter().filter(|frame| black_box(frame).is_ok()).count(),
+            Err(_) => 0,
+        }
+    }
+
+    /// A call for each.
+    fn one_by_one(&mut self) -> usize {
+        let s = self.setting;
+        let mut record = Record::fresh();
+        let heard = self.slots.chunks(s.slots()).zip(self.marks.chunks(s.slots()));
+        let lent = self.areas.chunks_mut(s.area()).zip(self.maps.chunks_mut(s.slots()));
+        let frames = heard.zip(lent);
+        let answers = frames.map(|((slots, marks), (area, map))| s.hear(&mut record, slots, marks, area, map));
+        answers.filter(|frame| black_box(frame).is_ok()).count()
+    }
+}
