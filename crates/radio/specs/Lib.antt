@@ -4,4 +4,5 @@ pub mod Lines
 pub mod Frames
 pub mod Records
 pub mod Hearing
+pub mod Replaying
 pub mod Masts

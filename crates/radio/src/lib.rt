@@ -8,4 +8,5 @@ mod hearing;
 mod lines;
 mod masts;
 mod records;
+mod replaying;
 mod words;
