@@ -1,3 +1,4 @@
 pub mod Plain
 pub mod Lent
+pub mod LentReplay
 pub mod LentMasts

@@ -33,7 +33,7 @@ laid S = layout (shape (S .type))
 abbrev pub mach : (S : Plain) → Data S → Val
 mach S = LL.val (S .type) (S .laws)
 
--- a slice of bytes: its type, what is lent of it, and its value
+-- a slice: its type, what is lent of it, and its value
 abbrev pub slice : Ty → Ty
 slice τ = tyStruct (38 ∷ 91 ∷ 93 ∷ []) (tcons τ (tcons (tyInt w64) tnil))
 

@@ -46,18 +46,19 @@ received-and-noted e k n = record { outcome = rw (sym (e .outcome), n .outcome, 
 
 -- ---- a morning's frames
 
--- `replay` gives these answers and this record, and `replay_in` leaves the record where the old one stood
-pub record Replays (before : Record) (f : Framing) (slots marks areas maps : List ℕ) (answer : Replayed) (next : Record) (left left-maps : List ℕ) : Type 0 where
-  pub outcome : replayOutcome answer next left left-maps ≡ replaying before f slots marks areas maps
+-- `replay` gives this answer and this record, and `replay_in` leaves the record where the old one stood
+pub record Replays (before : Record) (f : Framing) (slots marks areas maps results : List ℕ) (answer : Replayed) (next : Record) (left left-maps left-results : List ℕ) : Type 0 where
+  pub outcome : replayOutcome answer next left left-maps left-results ≡ replaying before f slots marks areas maps results
 
-pub replays-once : {before : Record} {f : Framing} {slots marks areas maps : List ℕ} {r s : Replayed} {n m : Record} {x y u v : List ℕ}
-    → Replays before f slots marks areas maps r n x u → Replays before f slots marks areas maps s m y v → (r ≡ s) × (n ≡ m) × (x ≡ y) × (u ≡ v)
-replays-once p q =
-    let same = p .outcome ∙ sym (q .outcome) in (
-      λ i. record { number = same i .number; frames = same i .frames; results = same i .results },
+pub replays-once : {before : Record} {f : Framing} {slots marks areas maps results : List ℕ} {r s : Replayed} {n m : Record} {x y u v p q : List ℕ}
+    → Replays before f slots marks areas maps results r n x u p → Replays before f slots marks areas maps results s m y v q → (r ≡ s) × (n ≡ m) × (x ≡ y) × (u ≡ v) × (p ≡ q)
+replays-once h k =
+    let same = h .outcome ∙ sym (k .outcome) in (
+      λ i. record { number = same i .number; frames = same i .frames },
       ap (λ (o : ReplayOutcome). o .next) same,
       ap (λ (o : ReplayOutcome). o .areas) same,
       ap (λ (o : ReplayOutcome). o .maps) same,
+      ap (λ (o : ReplayOutcome). o .results) same,
     )
 
 -- ---- two masts

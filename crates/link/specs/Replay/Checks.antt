@@ -15,13 +15,14 @@ use Rattle.frame.specs.Frame.Limits.{FrameAllowed, frame-kept, frame-yes, area-
 use Rattle.frame.specs.declared.setting.Framing.{Framing}
 use Rattle.link.specs.Replay.{framesIn, replayRefusal}
 
-pub record ReplayChecked (f : Framing) (slots marks areas maps : List ℕ) : Type 0 where
+pub record ReplayChecked (f : Framing) (slots marks areas maps results : List ℕ) : Type 0 where
   pub limits : FrameAllowed f
   pub few : framesIn f slots ≤ 64
   pub slots-size : length slots ≡ framesIn f slots * slotCount f
   pub marks-size : length marks ≡ framesIn f slots * slotCount f
   pub areas-size : length areas ≡ framesIn f slots * areaSize f
   pub maps-size : length maps ≡ framesIn f slots * slotCount f
+  pub results-size : length results ≡ framesIn f slots * 52
 
 -- a frame has slots
 pub some-slots : (f : Framing) → FrameAllowed f → 0 < slotCount f
@@ -30,7 +31,7 @@ some-slots f a =
     omega (arith, a .words .room)
 
 -- at most 64 frames, whose areas are not long
-few-frames : (f : Framing) (slots : List ℕ) → length slots ≤ 64 * slotCount f → framesIn f slots ≤ 64
+pub few-frames : (f : Framing) (slots : List ℕ) → length slots ≤ 64 * slotCount f → framesIn f slots ≤ 64
 few-frames f slots l = div-le-of-le-mul (slotCount f) (omega arith)
 
 pub areas-few : (f : Framing) → FrameAllowed f → (slots : List ℕ) → length slots ≤ 64 * slotCount f → framesIn f slots * areaSize f ≤ 261120
@@ -42,8 +43,8 @@ areas-few f a slots l =
 pub frames-counted : (f : Framing) → FrameAllowed f → (slots : List ℕ) (many : ℕ) → length slots ≡ many * slotCount f → framesIn f slots ≡ many
 frames-counted f a slots many e = rw e (mul-div-cancel many (some-slots f a))
 
-module _ (f : Framing) (slots marks areas maps : List ℕ) where
-  pub replay-checked : replayRefusal f slots marks areas maps ≡ 0 → ReplayChecked f slots marks areas maps
+module _ (f : Framing) (slots marks areas maps results : List ℕ) where
+  pub replay-checked : replayRefusal f slots marks areas maps results ≡ 0 → ReplayChecked f slots marks areas maps results
   unfolding replayRefusal
   replay-checked e =
       let (a, e₁) = need-zero (passes (allowedFrame f)) 1 _ (omega arith) e in
@@ -51,28 +52,30 @@ module _ (f : Framing) (slots marks areas maps : List ℕ) where
       let (n, e₃) = need-zero (ℕ-discrete (length slots) (framesIn f slots * slotCount f)) 2 _ (omega arith) e₂ in
       let (m, e₄) = need-zero (ℕ-discrete (length marks) (length slots)) 2 _ (omega arith) e₃ in
       let (k, e₅) = need-zero (ℕ-discrete (length areas) (framesIn f slots * areaSize f)) 2 _ (omega arith) e₄ in
-      let (p, _) = need-zero (ℕ-discrete (length maps) (length slots)) 2 _ (omega arith) e₅ in
+      let (p, e₆) = need-zero (ℕ-discrete (length maps) (length slots)) 2 _ (omega arith) e₅ in
+      let (q, _) = need-zero (ℕ-discrete (length results) (framesIn f slots * 52)) 2 _ (omega arith) e₆ in
       let limits = frame-kept f (passed _ a) in
-      record { limits = limits; few = few-frames f slots l; slots-size = n; marks-size = m ∙ n; areas-size = k; maps-size = p ∙ n }
+      record { limits = limits; few = few-frames f slots l; slots-size = n; marks-size = m ∙ n; areas-size = k; maps-size = p ∙ n; results-size = q }
 
-  pub replay-passes : ReplayChecked f slots marks areas maps → 0 ≡ replayRefusal f slots marks areas maps
+  pub replay-passes : ReplayChecked f slots marks areas maps results → 0 ≡ replayRefusal f slots marks areas maps results
   unfolding replayRefusal
   replay-passes c =
       let few : framesIn f slots * slotCount f ≤ 64 * slotCount f = mul-le-mul-right (slotCount f) (c .few) in
       need-yes _ _ _ _ (rw (← frame-yes f (c .limits)) tt)
       (need-yes _ _ _ _ (omega (arith, c .slots-size)) (need-yes _ _ _ _ (c .slots-size)
-      (need-yes _ _ _ _ (c .marks-size ∙ sym (c .slots-size)) (need-yes _ _ _ _ (c .areas-size) (need-yes _ _ _ _ (c .maps-size ∙ sym (c .slots-size)) refl)))))
+      (need-yes _ _ _ _ (c .marks-size ∙ sym (c .slots-size)) (need-yes _ _ _ _ (c .areas-size) (need-yes _ _ _ _ (c .maps-size ∙ sym (c .slots-size)) (need-yes _ _ _ _ (c .results-size) refl))))))
 
 -- frame i's parts lie in what was lent
-pub record Lies (f : Framing) (slots marks areas maps : List ℕ) (i : ℕ) : Type 0 where
+pub record Lies (f : Framing) (slots marks areas maps results : List ℕ) (i : ℕ) : Type 0 where
   pub in-slots : i * slotCount f + slotCount f ≤ length slots
   pub in-marks : i * slotCount f + slotCount f ≤ length marks
   pub in-areas : i * areaSize f + areaSize f ≤ length areas
   pub in-maps : i * slotCount f + slotCount f ≤ length maps
+  pub in-results : i * 52 + 52 ≤ length results
   pub few-slots : length slots ≤ 261120
   pub few-areas : length areas ≤ 261120
 
-pub lies : {f : Framing} {slots marks areas maps : List ℕ} → ReplayChecked f slots marks areas maps → (i : ℕ) → i < framesIn f slots → Lies f slots marks areas maps i
+pub lies : {f : Framing} {slots marks areas maps results : List ℕ} → ReplayChecked f slots marks areas maps results → (i : ℕ) → i < framesIn f slots → Lies f slots marks areas maps results i
 lies {f = f} {slots = slots} c i l =
     let own = within i (framesIn f slots) (slotCount f) l in
     let room = within i (framesIn f slots) (areaSize f) l in
@@ -83,6 +86,7 @@ lies {f = f} {slots = slots} c i l =
       in-marks = omega (arith, c .marks-size);
       in-areas = omega (arith, c .areas-size);
       in-maps = omega (arith, c .maps-size);
+      in-results = omega (arith, c .results-size);
       few-slots = omega (arith, c .slots-size, slots-few f (c .limits));
       few-areas = omega (arith, c .areas-size);
     }

@@ -1,4 +1,4 @@
--- `replay_in` meets its contract: it is the walk of `Lent.antt` over `replay`, of which it knows only that it meets its own.
+-- `replay_in` meets its contract: it is the walk of `LentReplay.antt` over `replay`, of which it knows only that it meets its own.
 -- Assumes nothing.
 use mathlib.Core.Path.{refl}
 use contract.Running.{givenOf, tables, tablesOf}
@@ -13,7 +13,7 @@ use Rattle.link.proofs.replaying.Replayed as N
 use Rattle.link.proofs.replaying.Replayed.Laws as N′
 use Rattle.link.proofs.replaying.ReplayHeard as K
 use Rattle.link.proofs.Plain.{Plain}
-use Rattle.link.proofs.Lent.{meets}
+use Rattle.link.proofs.LentReplay.{meets}
 use Rattle.link.proofs.replaying.replay as g
 use Rattle.link.proofs.replaying.replay.Symbol as g-def
 use Rattle.link.proofs.replaying.replay.Met as g-thm

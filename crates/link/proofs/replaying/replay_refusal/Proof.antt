@@ -10,7 +10,7 @@ use Rattle.algebra.specs.Tests.{passed}
 use Rattle.algebra.specs.Refusal.{need-yes, need-no, test-yes, test-no}
 use Rattle.frame.specs.Frame.Limits.{frame-kept, area-few, slots-few}
 use Rattle.link.specs.Replay.{replayRefusal}
-use Rattle.link.specs.Replay.Checks.{some-slots, areas-few}
+use Rattle.link.specs.Replay.Checks.{some-slots, few-frames, areas-few}
 use Rattle.link.proofs.replaying.replay_refusal.Statement.{statement}
 use Rattle.link.proofs.replaying.replay_refusal.Tie as tie
 
@@ -36,7 +36,7 @@ div-frames c = omega (arith, some-slots _ (frame-kept _ (passed _ (test-yes _ _ 
 
 mul-if3 : tie.Need-mul-if3
 mul-if3 c =
-    let given = c .before .before .before .before .before .before .before .before .args in
+    let given = c .before .before .before .before .before .before .before .before .before .args in
     omega (arith, div-mul-le-self (length (given .slots .now)) (given .f .n * given .f .depth))
 
 returns-3 : tie.Need-returns-3
@@ -55,8 +55,8 @@ mul-if5 c = omega (arith, area-few _ (frame-kept _ (passed _ (test-yes _ _ (c .b
 
 mul-if5-2 : tie.Need-mul-if5-2
 mul-if5-2 c =
-    let limits = frame-kept _ (passed _ (test-yes _ _ (c .before .before .before .before .before .before .before .is-allowed .ensures) (c .before .before .before .before .before .before .if1 .left))) in
-    omega (arith, areas-few _ limits (c .before .before .before .before .before .before .before .before .before .before .before .before .args .slots .now) (omega (arith, c .before .before .before .before .if2 .left)))
+    let limits = (frame-kept _ (passed _ (test-yes _ _ (c .before .before .before .before .before .before .before .is-allowed .ensures) (c .before .before .before .before .before .before .if1 .left)))) in
+    omega (arith, areas-few _ limits (c .before .before .before .before .before .before .before .before .before .before .before .before .before .args .slots .now) (omega (arith, c .before .before .before .before .if2 .left)))
 
 returns-5 : tie.Need-returns-5
 unfolding replayRefusal
@@ -66,9 +66,16 @@ returns-6 : tie.Need-returns-6
 unfolding replayRefusal
 returns-6 c = need-yes _ _ _ _ (test-yes _ _ (c .before .before .before .before .before .before .before .before .before .is-allowed .ensures) (c .before .before .before .before .before .before .before .before .if1 .left)) (need-yes _ _ _ _ (omega (arith, c .before .before .before .before .before .before .if2 .left)) (need-yes _ _ _ _ (c .before .before .before .before .before .if3 .left) (need-yes _ _ _ _ (c .before .before .before .before .if4 .left) (need-yes _ _ _ _ (c .before .if5 .left) (need-no _ _ _ (c .if6 .taken))))))
 
+mul-if7 : tie.Need-mul-if7
+mul-if7 c = omega (arith, few-frames (c .before .before .before .before .before .before .before .before .before .before .before .before .before .before .before .args .f) (c .before .before .before .before .before .before .before .before .before .before .before .before .before .before .before .args .slots .now) (omega (arith, c .before .before .before .before .before .before .if2 .left)))
+
 returns-7 : tie.Need-returns-7
 unfolding replayRefusal
-returns-7 c = need-yes _ _ _ _ (test-yes _ _ (c .before .before .before .before .before .before .before .before .before .is-allowed .ensures) (c .before .before .before .before .before .before .before .before .if1 .left)) (need-yes _ _ _ _ (omega (arith, c .before .before .before .before .before .before .if2 .left)) (need-yes _ _ _ _ (c .before .before .before .before .before .if3 .left) (need-yes _ _ _ _ (c .before .before .before .before .if4 .left) (need-yes _ _ _ _ (c .before .if5 .left) (need-yes _ _ _ _ (c .if6 .left) (refl))))))
+returns-7 c = need-yes _ _ _ _ (test-yes _ _ (c .before .before .before .before .before .before .before .before .before .before .is-allowed .ensures) (c .before .before .before .before .before .before .before .before .before .if1 .left)) (need-yes _ _ _ _ (omega (arith, c .before .before .before .before .before .before .before .if2 .left)) (need-yes _ _ _ _ (c .before .before .before .before .before .before .if3 .left) (need-yes _ _ _ _ (c .before .before .before .before .before .if4 .left) (need-yes _ _ _ _ (c .before .before .if5 .left) (need-yes _ _ _ _ (c .before .if6 .left) (need-no _ _ _ (c .if7 .taken)))))))
+
+returns-8 : tie.Need-returns-8
+unfolding replayRefusal
+returns-8 c = need-yes _ _ _ _ (test-yes _ _ (c .before .before .before .before .before .before .before .before .before .before .is-allowed .ensures) (c .before .before .before .before .before .before .before .before .before .if1 .left)) (need-yes _ _ _ _ (omega (arith, c .before .before .before .before .before .before .before .if2 .left)) (need-yes _ _ _ _ (c .before .before .before .before .before .before .if3 .left) (need-yes _ _ _ _ (c .before .before .before .before .before .if4 .left) (need-yes _ _ _ _ (c .before .before .if5 .left) (need-yes _ _ _ _ (c .before .if6 .left) (need-yes _ _ _ _ (c .if7 .left) (refl)))))))
 
 pub replay-refusal-spec : {M : Type 1} → statement M
 replay-refusal-spec =
@@ -88,4 +95,6 @@ replay-refusal-spec =
     mul-if5-2
     returns-5
     returns-6
-    returns-7)
+    mul-if7
+    returns-7
+    returns-8)
