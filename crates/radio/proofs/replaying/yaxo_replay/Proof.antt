@@ -1,4 +1,4 @@
--- `yaxo_replay` meets its contract: record and answers shown are ones that a replay promises, of the same record and setting.
+-- `yaxo_replay` meets its contract: record and answer shown are ones that a replay promises, of the same record and setting.
 -- Assumes nothing.
 use mathlib.Core.Path.{ap₂}
 use Rattle.radio.specs.Replaying.{bothReplayedSeen}
@@ -27,13 +27,16 @@ same-length c = search needs
 same-length-2 : tie.Need-same-length-2
 same-length-2 c = search needs
 
+same-length-3 : tie.Need-same-length-3
+same-length-3 c = search needs
+
 returns : tie.Need-returns
 returns c =
-    let told = c .before .before .before .before .before .before .before .replay in
+    let told = c .before .before .before .before .before .before .before .before .replay in
     record {
       inner = told .result;
-      promised = rw (c .before .before .before .before .before .before .before .before .before .before .before .record-of .ensures, c .before .before .before .before .before .before .before .before .before .before .framing-of .ensures) at (told .ensures);
-      same = ap₂ bothReplayedSeen (c .before .before .record-seen .ensures) (c .replayed-answer .ensures);
+      promised = rw (c .before .before .before .before .before .before .before .before .before .before .before .before .before .record-of .ensures, c .before .before .before .before .before .before .before .before .before .before .before .before .framing-of .ensures) at (told .ensures);
+      same = ap₂ bothReplayedSeen (c .before .record-seen .ensures) (c .replayed-answer .ensures);
     }
 
 pub yaxo-replay-spec : {M : Type 1} → statement M
@@ -47,4 +50,5 @@ yaxo-replay-spec =
     replayed-answer-requires
     same-length
     same-length-2
+    same-length-3
     returns)
