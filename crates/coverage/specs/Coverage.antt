@@ -3,7 +3,7 @@
 -- Assumes nothing.
 use mathlib.Core.Path.{_≡_}
 use mathlib.Core.List.{List, []}
-use Prim.Native.Nat.{ℕ, _+_, _-_, _*_, _<_}
+use Prim.Native.Nat.{ℕ, _+_, _-_, _*_, _≤_, _<_}
 use lib.ListN.{length, getD}
 use lib.Dec.{T}
 use Rattle.word.specs.Map.{changes}
@@ -16,6 +16,7 @@ use Rattle.coverage.specs.Each.{Each}
 use Rattle.coverage.specs.Channel.{Covered, OneRun, SomeRuns, MarkedRuns}
 use Rattle.coverage.specs.Frame.{Message, Frame, inFrame, Arrives, StreamArrives, framesOf, Answer, Answers, ComesBack}
 use Rattle.coverage.specs.Masts.{Copies, CopyArrives, Refused, MastsArrive, MastsAnswer, MastsAnswers, MastsHeard, MastsBack}
+use Rattle.coverage.specs.Replay.{frameAt, Called, after, ComesBackAt}
 use Rattle.coverage.specs.Line.{LineSetting, LineAllowed, delay, onLine, LineArrives, LineReceived, leaving, WordComesBack}
 
 -- ---- Any messages that fit, sent over the block frame or the delay line and damaged or marked within that bound in every word, come back as sent.
@@ -106,6 +107,15 @@ pub record TwoMasts : Type 0 where
   pub noted-once : TwoMastsNoted
   pub differ : NoTwoMastsAlike
   pub refused : RefusedTakesNothing
+
+-- ---- A morning's frames at once (document 02, No. 2). The demand is read frame by frame: each that meets its proviso comes back, in its own area and
+-- place, whatever became of the others, and is noted in its turn.
+
+abbrev pub ReplayComesBack : Type 0
+ReplayComesBack =
+    (f : Framing) → T (allowedFrame f) → (many : ℕ) → many ≤ 64 → (slots marks : List ℕ) (c : Called f many slots marks)
+    → (c .answer .number ≡ 0) × (c .answer .frames ≡ many) × (c .next ≡ after c many)
+    × ((i : ℕ) → i < many → (m : Message) → Arrives f m (frameAt f i slots marks) → ComesBackAt m c i)
 
 -- ---- Beyond the demand: runs that the receiver has marked may be as long as depth · r, since a marked symbol costs half of an unmarked one.
 

@@ -3,6 +3,7 @@ pub mod Channel
 pub mod Each
 pub mod Frame
 pub mod Masts
+pub mod Replay
 pub mod Line
 pub mod Coverage
 pub mod Places
@@ -11,6 +12,7 @@ pub mod Words
 pub mod FrameBack
 pub mod FramesBack
 pub mod MastsBack
+pub mod ReplayBack
 pub mod LineCalls
 pub mod LineBack
 pub mod CrossBack
