@@ -6,7 +6,8 @@
  * calls, it takes no memory of its own but the stack, and it ends. Two threads may call at once with buffers of their own.
  *
  * What a caller owes, since no call can test it:
- *   - a pointer with a length of L points to L bytes (an empty buffer's pointer may be NULL), and one to a record to a record;
+ *   - a pointer with a length of L points to L bytes (an empty buffer's pointer may be NULL), one to a record to a record, and
+ *     one to the results of a replay to as many numbers of 16 bits as the call is told;
  *   - what a call writes overlaps nothing else that is lent to the same call.
  *
  * What is not a buffer's content goes by value. A buffer that is not `const` is written only where the call says so.
@@ -26,8 +27,8 @@ extern "C" {
  * The numbers that a call answers, checked in the order 1, 2, 3, 6, 4, 5, 8; on the cross line 7 comes before 4.
  * Under 1, 2, 3 and 6 every lent buffer and record stays as it was, but for the second area and map of two masts, which are
  * left as their own copy's answer says. What 4, 5, 7 and 8 leave stands at each call. A replay answers a number for the whole
- * call, and one for each frame that speaks of this frame's own area and map.
- * Under any answer but 0 the returned figures, sequence number, mast, byte and mark are 0.
+ * call, and writes one for each frame into its results, which speaks of this frame's own area and map.
+ * Under any answer but 0 the returned figures, sequence number, mast, byte, mark and number of frames are 0.
  */
 #define YAXO_DONE 0         /* the result is there */
 #define YAXO_SETTING 1      /* a limit of the setting is broken, no number of steps reaches the position, or over 64 frames */
@@ -317,47 +318,60 @@ yaxo_received yaxo_hear_in(yaxo_record *record, yaxo_framing framing,
 /* ---- Replay ------------------------------------------------------------------------------------------------------ */
 
 /*
- * Frames of one setting that were kept, heard at once. Their slots, marks, areas and maps lie end to end, frame 0 first: for
- * N frames there are N * n * depth slots, as many marks and bytes of maps, and areas of N * A bytes. N is 0 to 64, so that
- * slots, marks and maps have at most 64 * 4080 bytes each, and the areas 64 * 4048.
+ * Frames of one setting that were kept, heard at once. Their slots, marks, areas, maps and results lie end to end, frame 0
+ * first: for N frames there are N * n * depth slots, as many marks and bytes of maps, areas of N * A bytes, and N results. N is
+ * 0 to 64, so that slots, marks and maps have at most 64 * 4080 bytes each, the areas 64 * 4048, and the results 64 * 104.
  */
 #define YAXO_REPLAY_MOST 64
 
 /*
- * What a replay answers: the whole call's number, and what each frame was answered. It has 7696 bytes. The payload of frame i
- * starts at areas + i * A + results[i].start: each frame counts from its own area. No place of the results says 0 but that of
- * an accepted frame: those past the frames say 2, and where the whole call is refused all say its number, with all else 0.
+ * What one frame of a replay was answered: 52 numbers of 16 bits, with no gap between them. The payload of frame i ends
+ * YAXO_TRAILER_BYTES before the end of this frame's own area, so that it starts at areas + (i + 1) * A - 4 - results[i].back.
  */
+typedef struct yaxo_result {
+    uint16_t answer;          /* 0, 3, 4 or 5 */
+    uint16_t word;            /* the first word beyond reach where the answer is 4, else 0 */
+    uint16_t sequence;        /* 0 unless the answer is 0, as are all that follow */
+    uint16_t back;            /* the payload's length, which may be 0: only the answer tells that a frame was accepted */
+    yaxo_figures figures[16]; /* of each word; 0 for words that the frame does not have */
+} yaxo_result;
+
+/* The numbers of a result. A call is told how many numbers it is lent for all its results: 52 for each frame. */
+#define YAXO_RESULT_NUMBERS 52
+
+/* What the whole call is answered. */
 typedef struct yaxo_replayed {
     uint8_t answer; /* 0, 1 or 2 */
-    size_t frames;  /* N; 0 unless the answer is 0 */
-    yaxo_received results[YAXO_REPLAY_MOST];
+    size_t frames;  /* N, how many were heard; 0 unless the answer is 0 */
 } yaxo_replayed;
 
-/* The record after a replay, and what it was answered. */
+/* The record after a replay, and what the whole call was answered. */
 typedef struct yaxo_replay_heard {
     yaxo_record next;
     yaxo_replayed answer;
 } yaxo_replay_heard;
 
 /*
- * Hears up to 64 frames into one record: what each is answered, its area and its map, and the record after the last, are those
- * of one yaxo_hear for each frame in order. slots and marks are only read; areas and maps are written, frame by frame.
- * Answers 0, also for no frames; 1 for the setting or for more slots than 64 frames have; 2 for slots that are no whole
- * number of frames, or for marks, areas or maps that are not as long as these frames ask. Both come before any frame is read,
- * and areas, maps and record stay. A refused frame does not stop the rest: 3 leaves its own area and map as they were, and 4
- * and 5 leave zeros there. yaxo_replay gives the record after it, yaxo_replay_in updates the lent one.
+ * Hears up to 64 frames into one record: each frame's result, its area and its map, and the record after the last, are those of
+ * one yaxo_hear for each frame in order. slots and marks are only read; areas, maps and results are written, frame by frame.
+ * What the results held before is not looked at.
+ * Answers 0, also for no frames; 1 for the setting or for more slots than 64 frames have; 2 for slots that are no whole number
+ * of frames, or for marks, areas, maps or results that are not as long as these frames ask. Both come before any frame is
+ * read, and areas, maps, results and record stay. A refused frame does not stop the rest: 3 leaves its own area and map as they
+ * were, and 4 and 5 leave zeros there. yaxo_replay gives the record after it, yaxo_replay_in updates the lent one.
  */
 yaxo_replay_heard yaxo_replay(yaxo_record before, yaxo_framing framing,
                               const uint8_t *slots, size_t slots_length,
                               const uint8_t *marks, size_t marks_length,
                               uint8_t *areas, size_t areas_length,
-                              uint8_t *maps, size_t maps_length);
+                              uint8_t *maps, size_t maps_length,
+                              yaxo_result *results, size_t results_numbers);
 yaxo_replayed yaxo_replay_in(yaxo_record *record, yaxo_framing framing,
                              const uint8_t *slots, size_t slots_length,
                              const uint8_t *marks, size_t marks_length,
                              uint8_t *areas, size_t areas_length,
-                             uint8_t *maps, size_t maps_length);
+                             uint8_t *maps, size_t maps_length,
+                             yaxo_result *results, size_t results_numbers);
 
 /* ---- Two masts --------------------------------------------------------------------------------------------------- */
 
