@@ -8,7 +8,7 @@ use crate::ffi;
 ///
 /// Under 1, 2, 3 and 6 every lent buffer stays as it was, but for the second area and map of [two masts](crate::masts),
 /// which are left as their own copy's answer says. What 4, 5, 7 and 8 leave is said at each call. What a frame of a
-/// [replay](crate::replay) is answered speaks of its own area and map.
+/// [replay](crate::replay) is answered speaks of its own area and map, and its result is written under every answer.
 #[derive(Clone, Copy, Debug, PartialEq, Eq, Hash)]
 #[repr(u8)]
 pub enum Refusal {

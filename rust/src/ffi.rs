@@ -1,15 +1,16 @@
 //! The library's C face, `include/yaxopetzo.h`, and the only unsafe code of this crate.
 //!
 //! Each call below is sound for one reason. The library is proved to read and write nothing but the buffers that it is
-//! lent, and it asks nothing of its caller but what slices give: a pointer to as many bytes as the length says, and for a
-//! buffer that is written, no overlap with another one of the call, which `&mut` rules out. An empty slice's pointer is
-//! never read. What crosses by value has the header's layout by `#[repr(C)]`; any bits of it are a valid value, but for
-//! the `bool` that two calls give, which is C's.
+//! lent, and it asks nothing of its caller but what slices give: a pointer to as many bytes, or numbers of 16 bits, as the
+//! length says, and for a buffer that is written, no overlap with another one of the call, which `&mut` rules out. An empty
+//! slice's pointer is never read. What crosses by value has the header's layout by `#[repr(C)]`; any bits of it are a valid
+//! value, but for the `bool` that two calls give, which is C's.
 #![deny(unsafe_op_in_unsafe_fn)]
 
 mod header;
 
 use crate::masts::Heard;
+use crate::replay::Place;
 
 pub use header::{
     Chosen, Code, CrossReceived, Decoded, Figures, Framing, Line, LineReceived, LineSent, Ready, Received, Record,
@@ -182,17 +183,20 @@ pub fn replay_in(
     marks: &[u8],
     areas: &mut [u8],
     maps: &mut [u8],
+    results: &mut [Place],
 ) -> Replayed {
-    let mut out = Replayed { answer: 0, frames: 0, results: [Received::default(); 64] };
     let (bytes, size) = (slots.as_ptr(), slots.len());
     let (trust, trust_size) = (marks.as_ptr(), marks.len());
     let (lent, a) = (areas.as_mut_ptr(), areas.len());
     let (changed, map_size) = (maps.as_mut_ptr(), maps.len());
-    // Sound: the result's place, a record and four slices; what is written of them overlaps nothing.
+    // A place is 52 numbers and nothing else. No slice has so many places that their numbers could not be counted.
+    let (told, numbers) = (results.as_mut_ptr().cast(), results.len().saturating_mul(Place::NUMBERS));
+    // Sound: a record and five slices; what is written of them overlaps nothing.
     unsafe {
-        header::yaxo_replay_in(&mut out, record, framing, bytes, size, trust, trust_size, lent, a, changed, map_size)
-    };
-    out
+        header::yaxo_replay_in(
+            record, framing, bytes, size, trust, trust_size, lent, a, changed, map_size, told, numbers,
+        )
+    }
 }
 
 pub fn masts_receive(framing: Framing, first: &mut Heard, second: &mut Heard) -> Chosen {

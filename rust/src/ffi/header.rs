@@ -2,13 +2,15 @@
 //!
 //! Four calls of the header are left out, those that take and give a record by value: the face lends one.
 //!
-//! Six calls give more than 16 bytes (`record_fresh`, `frame_receive`, `hear_in`, `replay_in`, `masts_receive`,
-//! `masts_hear_in`). On x86-64 C hands over the result's place as a hidden first argument. Here it is a plain first
-//! argument, which is the same call: the archive that `tools/native-archive` makes for another processor has it so too,
-//! where C's own rule would be another.
+//! Five calls give more than 16 bytes (`record_fresh`, `frame_receive`, `hear_in`, `masts_receive`, `masts_hear_in`). On
+//! x86-64 C hands over the result's place as a hidden first argument. Here it is a plain first argument, which is the same
+//! call: the archive that `tools/native-archive` makes for another processor has it so too, where C's own rule would be
+//! another.
+//!
+//! A replay's results cross as what they are, numbers of 16 bits: `yaxo_result` is [`Place`](crate::replay::Place).
 
 /// `yaxo_figures`.
-#[derive(Clone, Copy, Debug, Default, PartialEq, Eq)]
+#[derive(Clone, Copy, Default)]
 #[repr(C)]
 pub struct Figures {
     pub errors: u16,
@@ -77,7 +79,7 @@ pub struct Framing {
 }
 
 /// `yaxo_received`.
-#[derive(Clone, Copy, Debug, Default, PartialEq, Eq)]
+#[derive(Default)]
 #[repr(C)]
 pub struct Received {
     pub answer: u8,
@@ -105,7 +107,6 @@ pub struct Record {
 pub struct Replayed {
     pub answer: u8,
     pub frames: usize,
-    pub results: [Received; 64],
 }
 
 /// `yaxo_chosen`.
@@ -220,7 +221,6 @@ extern "C" {
     pub fn yaxo_record_standing(accepted: u8, last: u16, sequence: u16) -> u8;
     pub fn yaxo_record_note_in(record: *mut Record, answer: u8, sequence: u16);
     pub fn yaxo_replay_in(
-        out: *mut Replayed,
         record: *mut Record,
         framing: Framing,
         slots: *const u8,
@@ -231,7 +231,9 @@ extern "C" {
         a: usize,
         maps: *mut u8,
         maps_s: usize,
-    );
+        results: *mut u16,
+        numbers: usize,
+    ) -> Replayed;
     pub fn yaxo_masts_receive(
         out: *mut Chosen,
         framing: Framing,
