@@ -1,15 +1,16 @@
 //! Replays: up to 64 frames end to end into one record.
 //!
 //! What each frame is made for is known beforehand: its answer, its area and its map are held against that too, and not
-//! against the reference and the library's own `hear` alone.
+//! against the reference and the library's own `hear` alone. Results are compared in all their numbers, and as the face
+//! says them.
 
 use reference::frame as frames;
 use reference::masts::Reception;
 use reference::noise::Noise;
-use reference::replay::{self as plain, Answer, Morning};
+use reference::replay::{self as plain, Answer, Morning, Numbers};
 use yaxopetzo::frame::Setting;
 use yaxopetzo::record::Record;
-use yaxopetzo::replay::MOST;
+use yaxopetzo::replay::{Place, MOST};
 use yaxopetzo::Refusal;
 
 use crate::copies::{area, known, Known};
@@ -19,22 +20,33 @@ use crate::{frame, record};
 /// What each frame is answered, or the refusal of them all.
 type Answers = Result<Vec<Answer>, u8>;
 
+/// What a result holds before a call: no number of it is one that a call could leave there.
+const BEFORE: Numbers = [0xa5a5; 52];
+
 /// The reference's form of what the face answers. Each payload must be a part of its frame's own area.
 fn replayed(s: Setting, record: &mut Record, morning: &mut Morning) -> Answers {
     let first = morning.areas.as_ptr() as usize;
-    let Morning { slots, marks, areas, maps } = morning;
-    let replay = s.replay(record, slots, marks, areas, maps).map_err(Refusal::number)?;
-    let ends = (1..).map(|frames| first + frames * s.area());
-    let told = replay.iter().zip(ends);
-    Ok(told.map(|(frame, end)| frame.map(|f| frame::accepted(f, end)).map_err(frame::numbered)).collect())
+    let Morning { slots, marks, areas, maps, results } = morning;
+    let mut places: Vec<Place> = results.iter().map(|&numbers| Place { numbers }).collect();
+    let answers = s.replay(record, slots, marks, areas, maps, &mut places).map(|replay| {
+        let ends = (1..).map(|frames| first + frames * s.area());
+        let told = replay.iter().zip(ends);
+        told.map(|(frame, end)| frame.map(|f| frame::accepted(f, end)).map_err(frame::numbered)).collect()
+    });
+    let answers = answers.map_err(Refusal::number);
+    *results = places.iter().map(|place| place.numbers).collect();
+    answers
 }
 
-/// One `hear` for each frame in order.
+/// One `hear` for each frame in order, and each answer in numbers.
 fn one_by_one(s: Setting, record: &mut Record, morning: &mut Morning) -> Vec<Answer> {
     let heard = morning.slots.chunks(s.slots()).zip(morning.marks.chunks(s.slots()));
     let lent = morning.areas.chunks_mut(s.area()).zip(morning.maps.chunks_mut(s.slots()));
     let both = heard.zip(lent);
-    both.map(|((slots, marks), (area, map))| frame::heard(s, record, slots, marks, area, map)).collect()
+    let answers = both.map(|((slots, marks), (area, map))| frame::heard(s, record, slots, marks, area, map));
+    let answers: Vec<Answer> = answers.collect();
+    morning.results = answers.iter().map(plain::numbers).collect();
+    answers
 }
 
 /// Replays on both sides and frame by frame; gives the answers and what is left. A refusal of them all leaves everything.
@@ -55,14 +67,15 @@ fn compared(s: Setting, record: &mut Record, before: &Morning) -> (Answers, Morn
     (answers, ours)
 }
 
-/// Frames end to end.
+/// Frames end to end, with a place for the result of each.
 fn joined<'a>(frames: impl Iterator<Item = &'a Reception>) -> Morning {
-    let mut all = Morning { slots: vec![], marks: vec![], areas: vec![], maps: vec![] };
+    let mut all = lent(0, 0, 0, 0, 0, 0);
     for frame in frames {
         all.slots.extend(&frame.slots);
         all.marks.extend(&frame.marks);
         all.areas.extend(&frame.area);
         all.maps.extend(&frame.map);
+        all.results.push(BEFORE);
     }
     all
 }
@@ -90,6 +103,7 @@ fn known_beforehand(noise: &mut Noise, s: Setting, record: &mut Record, numbers:
             Err(refused) => assert_eq!(*refused, (number, frame.word), "{s:?}"),
         }
     }
+    left.results = answers.iter().map(plain::numbers).collect();
     assert_eq!(after, left, "{s:?}");
 }
 
@@ -151,8 +165,8 @@ fn walked(noise: &mut Noise, sequence: &mut u16, frames: usize) -> Vec<(u8, u16)
     (0..frames).map(step).collect()
 }
 
-/// Any setting, any frames, any record. It would catch an area, map or figure of another frame, marks of another frame, a
-/// payload that is counted from the first area, and an old map that shines through.
+/// Any setting, any frames, any record. It would catch an area, map or result of another frame, marks of another frame, a
+/// payload that is counted from the first area, and an old map or result that shines through.
 #[test]
 fn any_frames() {
     let mut noise = Noise::new(112);
@@ -209,8 +223,9 @@ fn at_the_top() {
 }
 
 /// Buffers of these lengths; the slots are those of frames without a payload, and every mark is the one that is named.
-fn lent(slots: usize, marks: usize, areas: usize, maps: usize, mark: u8) -> Morning {
-    Morning { slots: vec![0; slots], marks: vec![mark; marks], areas: vec![9; areas], maps: old(maps) }
+fn lent(slots: usize, marks: usize, areas: usize, maps: usize, results: usize, mark: u8) -> Morning {
+    let (slots, marks, areas) = (vec![0; slots], vec![mark; marks], vec![9; areas]);
+    Morning { slots, marks, areas, maps: old(maps), results: vec![BEFORE; results] }
 }
 
 /// Every total one short, one long, a frame short, a frame long, and empty, alone and together, also beside bad marks. It
@@ -225,17 +240,19 @@ fn totals() {
             let (whole, part) = (around(count * s.slots(), s.slots()), around(count * s.area(), s.area()));
             let read = whole.iter().flat_map(|&slots| whole.map(|marks| (slots, marks)));
             let written = || part.iter().flat_map(|&areas| whole.map(|maps| (areas, maps)));
-            for ((slots, marks), (areas, maps)) in read.flat_map(|read| written().map(move |written| (read, written))) {
-                let before = lent(slots, marks, areas, maps, [0, 2][calls % 2]);
+            let all = read.flat_map(|read| written().map(move |written| (read, written)));
+            let told = [count - 1, count, count + 1, 0];
+            for (((slots, marks), (areas, maps)), results) in all.flat_map(|all| told.map(|results| (all, results))) {
+                let before = lent(slots, marks, areas, maps, results, [0, 2][calls % 2]);
                 let heard = compared(s, &mut Record::fresh(), &before).0.map(|answers| answers.len());
                 let frames = slots / s.slots();
                 let fits = [slots, marks, areas, maps] == [frames * s.slots(), slots, frames * s.area(), slots];
-                let right = match fits {
+                let right = match fits && results == frames {
                     _ if slots > MOST * s.slots() => Err(1),
                     true => Ok(frames),
                     false => Err(2),
                 };
-                assert_eq!(heard, right, "{s:?}: {slots} {marks} {areas} {maps}");
+                assert_eq!(heard, right, "{s:?}: {slots} {marks} {areas} {maps} {results}");
                 calls += 1;
                 answered[right.err().unwrap_or(0) as usize] += 1;
             }
@@ -253,7 +270,7 @@ fn around_the_limits() {
     for &s in &settings {
         let (slots, area) = (s.depth.min(20) * s.n, s.depth.min(20) * s.n.saturating_sub(s.r));
         for (frames, more, mark) in [(0, 0, 0), (1, 0, 0), (2, 0, 1), (2, 0, 2), (0, 1, 0), (2, 1, 2)] {
-            let before = lent(frames * slots + more, frames * slots, frames * area, frames * slots, mark);
+            let before = lent(frames * slots + more, frames * slots, frames * area, frames * slots, frames, mark);
             let mut record = Record { accepted: true, last: 7, ..Record::fresh() };
             let (answers, _) = compared(s, &mut record, &before);
             if !s.is_allowed() {
@@ -269,9 +286,11 @@ fn around_the_limits() {
 fn handed_back() {
     let s = Setting { depth: 2, n: 5, r: 2, b: 0 };
     let slots = [0, 0, 65, 2, 1, 1, 217, 13, 153, 14].repeat(3);
-    let (mut areas, mut maps, mut record) = ([9; 18], [9; 30], Record::fresh());
+    let (mut areas, mut maps, mut results) = ([9; 18], [9; 30], [Place::default(); 3]);
+    let mut record = Record::fresh();
     let last = {
-        let replay = s.replay(&mut record, &slots, &[0; 30], &mut areas, &mut maps).expect("three frames");
+        let replay =
+            s.replay(&mut record, &slots, &[0; 30], &mut areas, &mut maps, &mut results).expect("three frames");
         assert_eq!((replay.len(), replay.is_empty()), (3, false));
         assert!((&replay).into_iter().eq((0..3).filter_map(|i| replay.get(i))));
         assert!([3, 63, MOST, usize::MAX].iter().all(|&i| replay.get(i).is_none()));
@@ -279,6 +298,6 @@ fn handed_back() {
     };
     assert_eq!(last.map(|frame| frame.map(|frame| (frame.sequence, frame.payload))), Some(Ok((258, &[65][..]))));
     assert_eq!((record.newer, record.repeat), (1, 2));
-    let none = s.replay(&mut record, &[], &[], &mut [], &mut []).expect("no frames");
+    let none = s.replay(&mut record, &[], &[], &mut [], &mut [], &mut []).expect("no frames");
     assert_eq!((none.len(), none.is_empty(), none.get(0), none.iter().count()), (0, true, None, 0));
 }
