@@ -221,65 +221,65 @@ static bool has_counts(yaxo_record r, unsigned newer, unsigned repeat, unsigned 
     return r.newer == newer && r.repeat == repeat && r.older == older && r.refused == refused;
 }
 
-/* Whether a place of a replay's results holds this number and nothing else. */
-static bool holds_only(const yaxo_received *place, uint8_t answer)
+/* Whether a frame's result has these four numbers and, unless it was accepted, no figures. */
+static bool has_result(const yaxo_result *result, unsigned answer, unsigned word, unsigned sequence, unsigned back)
 {
-    bool holds = place->answer == answer && place->word == 0 && place->sequence == 0 && place->start == 0 && place->length == 0;
-    for (int w = 0; w < YAXO_DEPTH_MOST; w++) {
-        holds = holds && has_figures(place->figures[w], 0, 0, 0);
+    bool holds = result->answer == answer && result->word == word && result->sequence == sequence && result->back == back;
+    for (int w = 0; w < YAXO_DEPTH_MOST && answer != YAXO_DONE; w++) {
+        holds = holds && has_figures(result->figures[w], 0, 0, 0);
     }
     return holds;
 }
 
-/* Whether the whole call was refused with this number, which each of the 64 places then says. */
-static bool is_refused(yaxo_replayed got, uint8_t answer)
+static bool is_answered(yaxo_replayed got, unsigned answer, size_t frames)
 {
-    bool holds = got.answer == answer && got.frames == 0;
-    for (int i = 0; i < YAXO_REPLAY_MOST; i++) {
-        holds = holds && holds_only(&got.results[i], answer);
-    }
-    return holds;
+    return got.answer == answer && got.frames == frames;
 }
 
 /* Three frames with the middle one refused, one with a bad mark, every total, and as many frames as there may be and one more. */
 static void replay(void)
 {
-    enum { MANY = YAXO_REPLAY_MOST + 1 };
+    enum { MANY = YAXO_REPLAY_MOST + 1, A = YAXO_FRAME_AREA(2, 5, 2), RESULT = YAXO_RESULT_NUMBERS };
     const yaxo_framing framing = { 2, 5, 2, 0 };
-    const struct { size_t slots, marks, areas, maps; } totals[] = {
-        { 29, 30, 18, 30 }, { 31, 30, 18, 30 }, { 20, 30, 18, 30 }, { 29, 29, 12, 29 }, { 0, 30, 18, 30 },
-        { 30, 29, 18, 30 }, { 30, 31, 18, 30 }, { 30, 20, 18, 30 }, { 30, 30, 17, 30 }, { 30, 30, 19, 30 },
-        { 30, 30, 12, 30 }, { 30, 30, 18, 29 }, { 30, 30, 18, 31 }, { 30, 30, 18, 40 }, { 0, 0, 6, 0 },
+    const struct { size_t slots, marks, areas, maps, numbers; } totals[] = {
+        { 29, 30, 18, 30, 156 }, { 31, 30, 18, 30, 156 }, { 20, 30, 18, 30, 156 }, { 29, 29, 12, 29, 104 }, { 0, 30, 18, 30, 156 },
+        { 30, 29, 18, 30, 156 }, { 30, 31, 18, 30, 156 }, { 30, 20, 18, 30, 156 }, { 30, 30, 17, 30, 156 }, { 30, 30, 19, 30, 156 },
+        { 30, 30, 12, 30, 156 }, { 30, 30, 18, 29, 156 }, { 30, 30, 18, 31, 156 }, { 30, 30, 18, 40, 156 }, { 0, 0, 6, 0, 0 },
+        { 30, 30, 18, 30, 155 }, { 30, 30, 18, 30, 157 }, { 30, 30, 18, 30, 104 }, { 30, 30, 18, 30, 208 }, { 30, 30, 18, 30, 3 },
+        { 30, 30, 18, 30, 0 }, { 0, 0, 0, 0, 52 }, { 0, 0, 0, 0, 1 },
     };
     uint8_t slots[MANY * YAXO_FRAME_SLOTS(2, 5)] = { 0 }, marks[sizeof slots] = { 0 }, maps[sizeof slots], kept_maps[sizeof slots];
-    uint8_t areas[MANY * YAXO_FRAME_AREA(2, 5, 2)], kept[sizeof areas];
+    uint8_t areas[MANY * A], kept[sizeof areas];
+    yaxo_result results[MANY], kept_results[MANY], old;
     yaxo_record record = yaxo_record_fresh();
     yaxo_replayed got;
     yaxo_replay_heard heard;
 
-    EXPECT(sizeof got == 7696 && sizeof heard == 7720);
+    EXPECT(sizeof results[0] == 104 && sizeof results[0] == RESULT * sizeof(uint16_t) && sizeof got == 16 && sizeof heard == 40);
+    EXPECT(offsetof(yaxo_result, word) == 2 && offsetof(yaxo_result, sequence) == 4 && offsetof(yaxo_result, back) == 6);
+    EXPECT(offsetof(yaxo_result, figures) == 8 && sizeof(yaxo_figures) == 6 && offsetof(yaxo_figures, marked) == 2);
+    EXPECT(offsetof(yaxo_figures, bits) == 4 && offsetof(yaxo_replayed, frames) == 8 && offsetof(yaxo_replay_heard, answer) == 24);
     EXPECT(yaxo_frame_send(framing, (const uint8_t *)"A", 1, 258, slots, 10) == YAXO_DONE);
     EXPECT(yaxo_frame_send(framing, (const uint8_t *)"B", 1, 259, slots + 10, 10) == YAXO_DONE);
     EXPECT(yaxo_frame_send(framing, (const uint8_t *)"CD", 2, 260, slots + 20, 10) == YAXO_DONE);
     slots[2] = 0;
     marks[11] = marks[13] = marks[15] = 1; /* word 1 of the middle frame has more marks than check bytes */
+    marks[29] = 1;
     slots[28] ^= 1;
     memset(areas, 9, sizeof areas);
     memset(maps, 9, sizeof maps);
-    got = yaxo_replay_in(&record, framing, slots, 30, marks, 30, areas, 18, maps, 30);
-    EXPECT(got.answer == YAXO_DONE && got.frames == 3);
-    EXPECT(got.results[0].answer == YAXO_DONE && got.results[0].sequence == 258);
-    EXPECT(got.results[0].start == 1 && got.results[0].length == 1);
-    EXPECT(has_figures(got.results[0].figures[0], 1, 0, 2) && has_figures(got.results[0].figures[1], 0, 0, 0));
-    EXPECT(got.results[1].word == 1);
-    got.results[1].word = 0;
-    EXPECT(holds_only(&got.results[1], YAXO_BEYOND_REACH));
-    EXPECT(got.results[2].answer == YAXO_DONE && got.results[2].sequence == 260 && got.results[2].length == 2);
-    EXPECT(memcmp(areas + 2 * YAXO_FRAME_AREA(2, 5, 2) + got.results[2].start, "CD", 2) == 0);
-    EXPECT(has_figures(got.results[2].figures[0], 1, 0, 1) && has_figures(got.results[2].figures[1], 0, 0, 0));
-    for (int i = 3; i < YAXO_REPLAY_MOST; i++) {
-        EXPECT(holds_only(&got.results[i], YAXO_LENGTH));
-    }
+    memset(results, 9, sizeof results);
+    memset(&old, 9, sizeof old);
+    got = yaxo_replay_in(&record, framing, slots, 30, marks, 30, areas, 3 * A, maps, 30, results, 3 * RESULT);
+    EXPECT(is_answered(got, YAXO_DONE, 3));
+    EXPECT(has_result(&results[0], YAXO_DONE, 0, 258, 1));
+    EXPECT(has_figures(results[0].figures[0], 1, 0, 2) && has_figures(results[0].figures[1], 0, 0, 0));
+    EXPECT(has_result(&results[1], YAXO_BEYOND_REACH, 1, 0, 0));
+    EXPECT(has_result(&results[2], YAXO_DONE, 0, 260, 2));
+    EXPECT(memcmp(areas + 3 * A - YAXO_TRAILER_BYTES - results[2].back, "CD", 2) == 0);
+    EXPECT(has_figures(results[2].figures[0], 1, 0, 1) && has_figures(results[2].figures[1], 0, 1, 0));
+    EXPECT(has_figures(results[2].figures[2], 0, 0, 0) && has_figures(results[2].figures[15], 0, 0, 0));
+    EXPECT(memcmp(&results[3], &old, sizeof old) == 0);
     SAME(areas, { 0, 65, 1, 0, 2, 1, 0, 0, 0, 0, 0, 0, 67, 68, 2, 0, 4, 1, 9 });
     SAME(maps, { 0, 0, 1, 0, 0, 0, 0, 0, 0, 0, 0, 0, 0, 0, 0, 0, 0, 0, 0, 0, 0, 0, 0, 0, 0, 0, 0, 0, 1, 0, 9 });
     EXPECT(has_counts(record, 2, 0, 0, 1) && record.accepted == 1 && record.last == 260);
@@ -288,10 +288,11 @@ static void replay(void)
     marks[4] = 2;
     memset(areas, 9, sizeof areas);
     memset(maps, 9, sizeof maps);
-    heard = yaxo_replay(record, framing, slots, 30, marks, 30, areas, 18, maps, 30);
-    EXPECT(heard.answer.answer == YAXO_DONE && heard.answer.frames == 3);
-    EXPECT(holds_only(&heard.answer.results[0], YAXO_SYMBOL) && heard.answer.results[1].answer == YAXO_BEYOND_REACH);
-    EXPECT(heard.answer.results[2].sequence == 260 && holds_only(&heard.answer.results[63], YAXO_LENGTH));
+    memset(results, 9, sizeof results);
+    heard = yaxo_replay(record, framing, slots, 30, marks, 30, areas, 3 * A, maps, 30, results, 3 * RESULT);
+    EXPECT(is_answered(heard.answer, YAXO_DONE, 3));
+    EXPECT(has_result(&results[0], YAXO_SYMBOL, 0, 0, 0) && has_result(&results[1], YAXO_BEYOND_REACH, 1, 0, 0));
+    EXPECT(has_result(&results[2], YAXO_DONE, 0, 260, 2) && memcmp(&results[3], &old, sizeof old) == 0);
     EXPECT(has_counts(heard.next, 2, 1, 0, 2) && heard.next.accepted == 1 && heard.next.last == 260);
     EXPECT(has_counts(record, 2, 0, 0, 1));
     SAME(areas, { 9, 9, 9, 9, 9, 9, 0, 0, 0, 0, 0, 0, 67, 68, 2, 0, 4, 1, 9 });
@@ -299,32 +300,33 @@ static void replay(void)
 
     /* Totals that do not fit come before that mark, too many frames before totals, and the setting before both: all stays. */
     record.accepted = 7;
+    memset(results, 9, sizeof results);
     memcpy(kept, areas, sizeof areas);
     memcpy(kept_maps, maps, sizeof maps);
+    memcpy(kept_results, results, sizeof results);
     for (size_t i = 0; i < sizeof totals / sizeof totals[0]; i++) {
         got = yaxo_replay_in(&record, framing, slots, totals[i].slots, marks, totals[i].marks,
-                             areas, totals[i].areas, maps, totals[i].maps);
-        EXPECT(is_refused(got, YAXO_LENGTH));
+                             areas, totals[i].areas, maps, totals[i].maps, results, totals[i].numbers);
+        EXPECT(is_answered(got, YAXO_LENGTH, 0));
     }
-    got = yaxo_replay_in(&record, framing, slots, 650, marks, 650, areas, 390, maps, 650);
-    EXPECT(is_refused(got, YAXO_SETTING));
-    got = yaxo_replay_in(&record, framing, slots, 641, marks, 1, areas, 1, maps, 1);
-    EXPECT(is_refused(got, YAXO_SETTING));
-    heard = yaxo_replay(record, (yaxo_framing){ 2, 5, 2, 2 }, NULL, 0, NULL, 0, NULL, 0, NULL, 0);
-    EXPECT(is_refused(heard.answer, YAXO_SETTING));
+    got = yaxo_replay_in(&record, framing, slots, 650, marks, 650, areas, MANY * A, maps, 650, results, MANY * RESULT);
+    EXPECT(is_answered(got, YAXO_SETTING, 0));
+    got = yaxo_replay_in(&record, framing, slots, 641, marks, 1, areas, 1, maps, 1, results, 1);
+    EXPECT(is_answered(got, YAXO_SETTING, 0));
+    heard = yaxo_replay(record, (yaxo_framing){ 2, 5, 2, 2 }, NULL, 0, NULL, 0, NULL, 0, NULL, 0, NULL, 0);
+    EXPECT(is_answered(heard.answer, YAXO_SETTING, 0));
     EXPECT(has_counts(heard.next, 2, 0, 0, 1) && heard.next.accepted == 7 && heard.next.last == 260);
     EXPECT(has_counts(record, 2, 0, 0, 1) && record.accepted == 7 && record.last == 260);
     EXPECT(memcmp(kept, areas, sizeof areas) == 0 && memcmp(kept_maps, maps, sizeof maps) == 0);
+    EXPECT(memcmp(kept_results, results, sizeof results) == 0);
 
     /* No frames at all, and 64: the last 61 are zeros, which is an empty payload with the number 0. */
-    got = yaxo_replay_in(&record, framing, NULL, 0, NULL, 0, NULL, 0, NULL, 0);
-    EXPECT(got.answer == YAXO_DONE && got.frames == 0);
-    EXPECT(holds_only(&got.results[0], YAXO_LENGTH) && holds_only(&got.results[63], YAXO_LENGTH));
+    got = yaxo_replay_in(&record, framing, NULL, 0, NULL, 0, NULL, 0, NULL, 0, NULL, 0);
+    EXPECT(is_answered(got, YAXO_DONE, 0));
     EXPECT(has_counts(record, 2, 0, 0, 1) && record.accepted == 7 && record.last == 260);
-    got = yaxo_replay_in(&record, framing, slots, 640, marks, 640, areas, 384, maps, 640);
-    EXPECT(got.answer == YAXO_DONE && got.frames == 64);
-    EXPECT(got.results[63].answer == YAXO_DONE && got.results[63].sequence == 0);
-    EXPECT(got.results[63].start == 2 && got.results[63].length == 0);
+    got = yaxo_replay_in(&record, framing, slots, 640, marks, 640, areas, 64 * A, maps, 640, results, 64 * RESULT);
+    EXPECT(is_answered(got, YAXO_DONE, 64));
+    EXPECT(has_result(&results[63], YAXO_DONE, 0, 0, 0) && memcmp(&results[64], &old, sizeof old) == 0);
     EXPECT(areas[383] == 0 && areas[384] == 9 && maps[639] == 0 && maps[640] == 9);
     EXPECT(has_counts(record, 2, 1, 61, 2) && record.accepted == 7 && record.last == 260);
 }
