@@ -1,11 +1,11 @@
-//! The table of replays: 64 full frames by one call, beside a call of `hear` for each of them.
+//! The table of replays: full frames by one call, beside a call of `hear` for each of them.
 
 use std::hint::black_box;
 
 use reference::noise::Noise;
 use yaxopetzo::frame::Setting;
 use yaxopetzo::record::Record;
-use yaxopetzo::replay::MOST;
+use yaxopetzo::replay::{Place, MOST};
 
 use crate::frames::Parcel;
 use crate::table::{rate, spoken, wanted};
@@ -20,33 +20,45 @@ const DAMAGES: [Damage; 3] = [
 ];
 
 pub fn table(only: Option<&str>) {
-    println!("| {MOST} frames | Replay | MB/s of message | {MOST} calls of hear | Replay / hear |");
+    println!("| Replay | One call | MB/s of message | A call of hear for each | One call / hear |");
     println!("|---|---|---|---|---|");
+    // What one call costs more than another shows where it hears few frames, and most where they are clean.
+    rows(MOST, &DAMAGES, only);
+    rows(8, &DAMAGES[..2], only);
+    rows(1, &DAMAGES[..2], only);
+}
+
+fn rows(frames: usize, damages: &[Damage], only: Option<&str>) {
     let s = Setting { depth: 4, n: 64, r: 16, b: 0 };
-    for damage in DAMAGES {
-        let name = format!("replay, {} x {}, r = {}, {}", s.depth, s.n, s.r, damage.name);
+    for &damage in damages {
+        let plural = if frames == 1 { "" } else { "s" };
+        let name = format!("replay, {frames} frame{plural} of {} x {}, r = {}, {}", s.depth, s.n, s.r, damage.name);
         if wanted(only, &name) {
-            measured(&name, s, damage);
+            measured(&name, s, frames, damage);
         }
     }
 }
 
-/// One row: both ways over the same frames.
-fn measured(name: &str, s: Setting, damage: Damage) {
+/// One row: both ways over the same 64 frames, so many by each call.
+fn measured(name: &str, s: Setting, frames: usize, damage: Damage) {
     let ways: [fn(&mut Morning) -> usize; 2] = [Morning::at_once, Morning::one_by_one];
+    let mut noise = Noise::new(75 + damage.wrong as u64);
+    let parcels: Vec<Parcel> = (0..MOST).map(|_| Parcel::new(&mut noise, s, damage)).collect();
     let mut work: Vec<Work> = Vec::new();
     for way in ways {
-        let mut morning = Morning::tried(s, damage, way);
-        work.push(Box::new(move |_, count| {
-            for _ in 0..count {
-                black_box(way(&mut morning));
+        let mut mornings: Vec<Morning> = parcels.chunks(frames).map(|part| Morning::tried(s, part, way)).collect();
+        work.push(Box::new(move |from, count| {
+            for call in from..from + count {
+                let turn = call % mornings.len();
+                let morning = &mut mornings[turn];
+                black_box(way(morning));
                 black_box((&morning.areas, &morning.maps));
             }
         }));
     }
     let times = medians(&mut work);
     let (ours, calls) = (times[0], times[1]);
-    let rate = rate(MOST * (s.area() - 4), ours);
+    let rate = rate(frames * (s.area() - 4), ours);
     println!("| {name} | {} | {rate} | {} | {:.2} |", spoken(ours), spoken(calls), ours / calls);
 }
 
@@ -57,26 +69,26 @@ struct Morning {
     marks: Vec<u8>,
     areas: Vec<u8>,
     maps: Vec<u8>,
+    results: Vec<Place>,
 }
 
 impl Morning {
-    /// The frames of a row. A way that does not hear them all would make its time worthless.
-    fn tried(s: Setting, damage: Damage, way: fn(&mut Morning) -> usize) -> Morning {
-        let mut noise = Noise::new(75 + damage.wrong as u64);
-        let parcels: Vec<Parcel> = (0..MOST).map(|_| Parcel::new(&mut noise, s, damage)).collect();
+    /// The frames of a call. A way that does not hear them all would make its time worthless.
+    fn tried(s: Setting, parcels: &[Parcel], way: fn(&mut Morning) -> usize) -> Morning {
         let joined = |part: fn(&Parcel) -> &[u8]| parcels.iter().flat_map(part).copied().collect::<Vec<u8>>();
         let (slots, marks) = (joined(|parcel| &parcel.received), joined(|parcel| &parcel.marks));
-        let (areas, maps) = (vec![0; MOST * s.area()], vec![0; MOST * s.slots()]);
-        let mut morning = Morning { setting: s, slots, marks, areas, maps };
-        assert_eq!(way(&mut morning), MOST);
+        let (areas, maps) = (vec![0; parcels.len() * s.area()], vec![0; parcels.len() * s.slots()]);
+        let results = vec![Place::EMPTY; parcels.len()];
+        let mut morning = Morning { setting: s, slots, marks, areas, maps, results };
+        assert_eq!(way(&mut morning), parcels.len());
         assert!(morning.areas == joined(|parcel| &parcel.area));
         morning
     }
 
     /// One call for them all; gives how many were accepted.
     fn at_once(&mut self) -> usize {
-        let Morning { setting, slots, marks, areas, maps } = self;
-        match setting.replay(&mut Record::fresh(), slots, marks, areas, maps) {
+        let Morning { setting, slots, marks, areas, maps, results } = self;
+        match setting.replay(&mut Record::fresh(), slots, marks, areas, maps, results) {
             Ok(replay) => replay.iter().filter(|frame| black_box(frame).is_ok()).count(),
             Err(_) => 0,
         }
