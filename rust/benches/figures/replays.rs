@@ -1,5 +1,6 @@
 //! The table of replays: full frames by one call, beside a call of `hear` for each of them.
 
+use std::cell::RefCell;
 use std::hint::black_box;
 
 use reference::noise::Noise;
@@ -39,15 +40,24 @@ fn rows(frames: usize, damages: &[Damage], only: Option<&str>) {
     }
 }
 
-/// One row: both ways over the same 64 frames, so many by each call.
+/// One of the two ways; gives how many frames were accepted.
+type Way = fn(&mut Morning) -> usize;
+
+/// One row: both ways over the same 64 frames, so many by each call. They are lent the same buffers too, so that neither has
+/// those that lie better.
 fn measured(name: &str, s: Setting, frames: usize, damage: Damage) {
-    let ways: [fn(&mut Morning) -> usize; 2] = [Morning::at_once, Morning::one_by_one];
+    let ways: [Way; 2] = [Morning::at_once, Morning::one_by_one];
     let mut noise = Noise::new(75 + damage.wrong as u64);
     let parcels: Vec<Parcel> = (0..MOST).map(|_| Parcel::new(&mut noise, s, damage)).collect();
+    let mut mornings: Vec<Morning> = parcels.chunks(frames).map(|part| Morning::new(s, part)).collect();
+    for (morning, part) in mornings.iter_mut().zip(parcels.chunks(frames)) {
+        ways.iter().for_each(|&way| morning.tried(part, way));
+    }
+    let mornings = &RefCell::new(mornings);
     let mut work: Vec<Work> = Vec::new();
     for way in ways {
-        let mut mornings: Vec<Morning> = parcels.chunks(frames).map(|part| Morning::tried(s, part, way)).collect();
         work.push(Box::new(move |from, count| {
+            let mut mornings = mornings.borrow_mut();
             for call in from..from + count {
                 let turn = call % mornings.len();
                 let morning = &mut mornings[turn];
@@ -62,6 +72,11 @@ fn measured(name: &str, s: Setting, frames: usize, damage: Damage) {
     println!("| {name} | {} | {rate} | {} | {:.2} |", spoken(ours), spoken(calls), ours / calls);
 }
 
+/// A part of each frame, end to end.
+fn joined(parcels: &[Parcel], part: fn(&Parcel) -> &[u8]) -> Vec<u8> {
+    parcels.iter().flat_map(part).copied().collect()
+}
+
 /// Frames end to end, and what is lent for them.
 struct Morning {
     setting: Setting,
@@ -73,19 +88,25 @@ struct Morning {
 }
 
 impl Morning {
-    /// The frames of a call. A way that does not hear them all would make its time worthless.
-    fn tried(s: Setting, parcels: &[Parcel], way: fn(&mut Morning) -> usize) -> Morning {
-        let joined = |part: fn(&Parcel) -> &[u8]| parcels.iter().flat_map(part).copied().collect::<Vec<u8>>();
-        let (slots, marks) = (joined(|parcel| &parcel.received), joined(|parcel| &parcel.marks));
-        let (areas, maps) = (vec![0; parcels.len() * s.area()], vec![0; parcels.len() * s.slots()]);
-        let results = vec![Place::EMPTY; parcels.len()];
-        let mut morning = Morning { setting: s, slots, marks, areas, maps, results };
-        assert_eq!(way(&mut morning), parcels.len());
-        assert!(morning.areas == joined(|parcel| &parcel.area));
-        morning
+    fn new(s: Setting, parcels: &[Parcel]) -> Morning {
+        Morning {
+            setting: s,
+            slots: joined(parcels, |parcel| &parcel.received),
+            marks: joined(parcels, |parcel| &parcel.marks),
+            areas: vec![0; parcels.len() * s.area()],
+            maps: vec![0; parcels.len() * s.slots()],
+            results: vec![Place::EMPTY; parcels.len()],
+        }
     }
 
-    /// One call for them all; gives how many were accepted.
+    /// A way that does not hear all frames would make its time worthless.
+    fn tried(&mut self, parcels: &[Parcel], way: Way) {
+        self.areas.fill(0);
+        assert_eq!(way(self), parcels.len());
+        assert!(self.areas == joined(parcels, |parcel| &parcel.area));
+    }
+
+    /// One call for them all.
     fn at_once(&mut self) -> usize {
         let Morning { setting, slots, marks, areas, maps, results } = self;
         match setting.replay(&mut Record::fresh(), slots, marks, areas, maps, results) {
