@@ -2,13 +2,12 @@
 -- its own call.
 -- Assumes nothing.
 use mathlib.Core.Path.{_≡_, sym, ap, ap₂, _∙_}
-use mathlib.Core.Bool.{Bool, true, false}
-use mathlib.Core.List.{List, []}
-use Prim.Native.Nat.{ℕ, _+_, _*_, _≤_, _<_}
+use mathlib.Core.Bool.{true}
+use mathlib.Core.List.{List}
+use Prim.Native.Nat.{ℕ, _≤_, _<_}
 use native.Mathlib.Omega.{arith}
-use lib.ListN.{length}
 use lib.Dec.{T}
-use Rattle.algebra.specs.Tests.{at, if_then_else_, passed}
+use Rattle.algebra.specs.Tests.{at, passed}
 use Rattle.algebra.specs.Lists.{part}
 use Rattle.frame.specs.Frame.{areaSize, slotCount, allowedFrame, ReceiveOutcome, receiveOutcome, receiving, numberOf, isDone, payloadIn, payloadOf}
 use Rattle.frame.specs.Frame.Limits.{FrameAllowed, frame-kept}
@@ -21,7 +20,7 @@ use Rattle.link.specs.Replay.{framesIn, resultOf}
 use Rattle.link.specs.Replay.Checks.{ReplayChecked, frames-counted, lies}
 use Rattle.link.specs.Replay.Turns.{part-size}
 use Rattle.link.specs.Replay.Each.{FrameHeard, EachHeard, each-heard}
-use Rattle.coverage.specs.Frame.{Message, Frame, Arrives, Answer, Answers, ComesBack}
+use Rattle.coverage.specs.Frame.{Message, Arrives, Answer, ComesBack}
 use Rattle.coverage.specs.Replay.{frameAt, Called, after, ComesBackAt}
 use Rattle.coverage.specs.Coverage.{ReplayComesBack}
 use Rattle.coverage.specs.FrameBack.{frame-comes-back}

@@ -1,7 +1,7 @@
 -- Whatever a frame is answered, there is an answer of the code for it, and what is left is as long as what was lent. So frames that lie end to
 -- end keep their places.
 -- Assumes nothing.
-use mathlib.Core.Path.{_≡_, refl, sym, ap, _∙_}
+use mathlib.Core.Path.{_≡_, refl, ap, _∙_}
 use mathlib.Core.Bool.{Bool, true, false}
 use mathlib.Core.List.{List, []}
 use mathlib.Core.Option.{Option, some, none, Option·getD}
@@ -23,7 +23,7 @@ use Rattle.interleave.specs.Slots.{spread-rule}
 use Rattle.frame.specs.Frame.{wordSetting, areaSize, slotCount, isNone, receivedWord, receivedMarks, correctedWord, messageOf, beyond, areaReceived, figuresReceived, mapReceived, ReceiveOutcome, receiveOutcome, settled, decodedFrame, trailerGood, refusedWith, twoAt, receiveRefusal, receiving}
 use Rattle.frame.specs.Frame.Limits.{FrameAllowed}
 use Rattle.frame.specs.Checks.{receive-checked}
-use Rattle.frame.specs.Receiving.{settled-bad, settled-good, decoded-beyond, decoded-settled, receive-refused}
+use Rattle.frame.specs.Receiving.{settled-bad, settled-good, decoded-beyond, receive-refused}
 use Rattle.frame.specs.declared.setting.Framing.{Framing}
 use Rattle.frame.specs.declared.setting.Received.{Received}
 use Rattle.frame.specs.declared.setting.Verdict.the-variants.{Done}
