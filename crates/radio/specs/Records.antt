@@ -9,18 +9,28 @@ use native.Mathlib.Decide.{ℕ-discrete}
 use borrow.Author.Tests.{ne-eqb}
 use lib.Dec.{eqb}
 use Rattle.algebra.specs.Tests.{if_then_else_}
+use Rattle.record.specs.Memory.{unseenIn}
 use Rattle.record.specs.Record.{freshRecord, standing}
 use Rattle.record.specs.Promises.{Notes, notes-once}
 use Rattle.record.specs.declared.Record.{Record}
 use Rattle.record.specs.declared.Kind.{Kind}
-use Rattle.record.specs.declared.Kind.the-variants.{Newer, Repeat, Older}
+use Rattle.record.specs.declared.Kind.the-variants.{Newer, Repeat, Older, Late}
 use Rattle.radio.specs.Shown.{Shows, shown-once}
 use Rattle.radio.specs.declared.records.LentRecord.{LentRecord}
 
 -- any byte but 0 says that a frame was accepted
 abbrev pub recordOf : LentRecord → Record
 recordOf h =
-    record { accepted = not (eqb (h .accepted) 0); last = h .last; newer = h .newer; repeat = h .repeat; older = h .older; refused = h .refused }
+    record {
+      accepted = not (eqb (h .accepted) 0);
+      last = h .last;
+      newer = h .newer;
+      repeat = h .repeat;
+      older = h .older;
+      refused = h .refused;
+      late = h .late;
+      seen = h .seen;
+    }
 
 -- a byte that says so stays as it is
 unfoldable pub flagAfter : ℕ → Bool → ℕ
@@ -36,19 +46,22 @@ recordSeen before next =
       repeat = next .repeat;
       older = next .older;
       refused = next .refused;
+      late = next .late;
+      seen = next .seen;
     }
 
 abbrev pub freshLent : LentRecord
-freshLent = record { accepted = 0; last = 0; newer = 0; repeat = 0; older = 0; refused = 0 }
+freshLent = record { accepted = 0; last = 0; newer = 0; repeat = 0; older = 0; refused = 0; late = 0; seen = 0 }
 
--- a record of which only these two are known
-abbrev pub judgedBy : ℕ → ℕ → LentRecord
-judgedBy accepted last = record { accepted = accepted; last = last; newer = 0; repeat = 0; older = 0; refused = 0 }
+-- a record of which only these three are known
+abbrev pub judgedBy : (accepted last seen : ℕ) → LentRecord
+judgedBy accepted last seen = record { accepted = accepted; last = last; newer = 0; repeat = 0; older = 0; refused = 0; late = 0; seen = seen }
 
 abbrev pub kindNumber : Kind → ℕ
 kindNumber Newer = 0
 kindNumber Repeat = 1
 kindNumber Older = 2
+kindNumber Late = 3
 
 -- ---- the promise: `yaxo_record_note` answers what is seen of the record's own note, and `yaxo_record_note_in` leaves it
 
@@ -90,9 +103,12 @@ lent-stays h = rw (flag-stays (h .accepted))
 pub record-fresh-once : (r q : LentRecord) → r ≡ freshLent → q ≡ freshLent → r ≡ q
 record-fresh-once r q p u = cc
 
-pub record-standing-once : (accepted last new r q : ℕ) → r ≡ kindNumber (standing (recordOf (judgedBy accepted last)) new)
-    → q ≡ kindNumber (standing (recordOf (judgedBy accepted last)) new) → r ≡ q
-record-standing-once accepted last new r q p u = cc
+pub record-standing-once : (accepted last seen new r q : ℕ) → r ≡ kindNumber (standing (recordOf (judgedBy accepted last seen)) new)
+    → q ≡ kindNumber (standing (recordOf (judgedBy accepted last seen)) new) → r ≡ q
+record-standing-once accepted last seen new r q p u = cc
+
+pub record-unseen-once : (seen r q : ℕ) → r ≡ unseenIn seen → q ≡ unseenIn seen → r ≡ q
+record-unseen-once seen r q p u = cc
 
 pub record-note-once : (h : LentRecord) (answer new : ℕ) (r q : LentRecord) → RecordNote h answer new r → RecordNote h answer new q → r ≡ q
 record-note-once h answer new r q p u = shown-once p u refl (notes-once _ _ _ _ _ (p .promised) (u .promised))

@@ -1,11 +1,13 @@
 // The receiver's record for C: as C lends it, and the calls.
 ghost use mathlib.Core.Path.{_≡_};
+ghost use Rattle.record.specs.Memory.{unseenIn};
 ghost use Rattle.record.specs.Record.{standing};
 ghost use Rattle.radio.specs.Records.{flagAfter, recordOf, recordSeen, freshLent, kindNumber, judgedBy, RecordNote};
 use record::Kind;
 use record::Record;
 use record::note;
 use record::standing_of;
+use record::unseen_of;
 
 // The record as C lends it. C can put any byte where a `bool` is to be, so `accepted` is a byte: 0, or anything else for yes.
 #[repr(C)]
@@ -16,6 +18,8 @@ pub struct LentRecord {
     pub repeat: u32,
     pub older: u32,
     pub refused: u32,
+    pub late: u32,
+    pub seen: u32,
 }
 
 // The record below.
@@ -29,6 +33,8 @@ pub fn record_of(lent: LentRecord) -> Record
         repeat: lent.repeat,
         older: lent.older,
         refused: lent.refused,
+        late: lent.late,
+        seen: lent.seen,
     }
 }
 
@@ -57,10 +63,12 @@ pub fn record_seen(before: LentRecord, next: Record) -> LentRecord
         repeat: next.repeat,
         older: next.older,
         refused: next.refused,
+        late: next.late,
+        seen: next.seen,
     }
 }
 
-// The number of a standing, in the record's order.
+// The number of a standing, in the record's order. Late came last, so that the numbers before it keep their meaning.
 fn kind_number(kind: Kind) -> u8
     ensures { λ r. ⌜ r ≡ kindNumber kind ⌝ }
 {
@@ -68,6 +76,7 @@ fn kind_number(kind: Kind) -> u8
         Kind::Newer => 0,
         Kind::Repeat => 1,
         Kind::Older => 2,
+        Kind::Late => 3,
     }
 }
 
@@ -83,13 +92,15 @@ pub extern "C" fn yaxo_record_fresh() -> LentRecord
         repeat: 0,
         older: 0,
         refused: 0,
+        late: 0,
+        seen: 0,
     }
 }
 
-// How a sequence number stands to a record's newest one: 0 newer, 1 repeat, 2 older. Only these two fields of a record decide.
+// How a sequence number stands to what a record has accepted: 0 newer, 1 repeat, 2 older, 3 late. Only these three fields decide.
 #[no_mangle]
-pub extern "C" fn yaxo_record_standing(accepted: u8, last: u16, sequence: u16) -> u8
-    ensures { λ r. ⌜ r ≡ kindNumber (standing (recordOf (judgedBy accepted last)) sequence) ⌝ }
+pub extern "C" fn yaxo_record_standing(accepted: u8, last: u16, seen: u32, sequence: u16) -> u8
+    ensures { λ r. ⌜ r ≡ kindNumber (standing (recordOf (judgedBy accepted last seen)) sequence) ⌝ }
 {
     let lent = LentRecord {
         accepted,
@@ -98,9 +109,29 @@ pub extern "C" fn yaxo_record_standing(accepted: u8, last: u16, sequence: u16) -
         repeat: 0,
         older: 0,
         refused: 0,
+        late: 0,
+        seen,
     };
     let kind = standing_of(record_of(lent), sequence);
     kind_number(kind)
+}
+
+// How many of the 32 numbers just below a record's newest one were not accepted. Only this field decides.
+#[no_mangle]
+pub extern "C" fn yaxo_record_unseen(seen: u32) -> u32
+    ensures { λ r. ⌜ r ≡ unseenIn seen ⌝ }
+{
+    let lent = LentRecord {
+        accepted: 0,
+        last: 0,
+        newer: 0,
+        repeat: 0,
+        older: 0,
+        refused: 0,
+        late: 0,
+        seen,
+    };
+    unseen_of(record_of(lent))
 }
 
 // The record after a frame that was answered so. Only 0, 4 and 5 change it.

@@ -1,3 +1,4 @@
 pub mod Order
+pub mod Memory
 pub mod Record
 pub mod Promises

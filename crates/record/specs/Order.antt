@@ -11,6 +11,10 @@ pub mod Laws
 abbrev pub lead : ℕ → ℕ → ℕ
 lead new last = (new + (65536 - last)) % 65536
 
--- with d that difference: d = 0 is the same number, 1 to 32767 ahead, 32768 to 65535 behind
+-- the last number minus the new, wrapped the same way
+abbrev pub lag : ℕ → ℕ → ℕ
+lag new last = (65536 - lead new last) % 65536
+
+-- with d the lead: d = 0 is the same number, 1 to 32767 ahead, 32768 to 65535 behind
 unfoldable pub compared : ℕ → ℕ → Order
 compared new last = if eqb (lead new last) 0 then Same else if ltb (lead new last) 32768 then Ahead else Behind

@@ -1,13 +1,24 @@
-// The receiver's record: document 01, section Receiver's record. It holds the newest sequence number, and how many frames were
-// newer, repeated, older and refused. What each call promises is defined in specs/Record.antt and specs/Promises.antt.
+// The receiver's record: document 01, section Receiver's record, with the memory of document 02, No. 7. It holds the newest sequence
+// number, which of the 32 just below it were accepted, and how many frames were newer, repeated, older, refused and late. What each call
+// promises is defined in specs/Record.antt and specs/Promises.antt.
 ghost use mathlib.Core.Path.{_≡_};
-ghost use Rattle.record.specs.Record.{oneMore, freshRecord, countedAs, lostAfter, kindOf, standing};
+ghost use Prim.Native.Nat.{_≤_};
+ghost use Rattle.record.specs.Memory.{unseenIn};
+ghost use Rattle.record.specs.Record.{oneMore, freshRecord, memoryAfter, countedAs, lostAfter, behindBy, standing};
 ghost use Rattle.record.specs.Promises.{Notes};
+ghost use Rattle.record.specs.declared.Kind.the-variants.{Newer};
 
+mod memory;
 mod order;
 
+use memory::count_unseen;
+use memory::see;
+use memory::seen_at;
+use memory::slide;
 use order::Order;
 use order::compare;
+use order::lag_of;
+use order::lead_of;
 
 // A caller makes it by `fresh` and hands it to every call that receives. The C face lends it, so its fields keep their order.
 #[repr(C)]
@@ -18,13 +29,16 @@ pub struct Record {
     pub repeat: u32,
     pub older: u32,
     pub refused: u32,
+    pub late: u32,
+    pub seen: u32,
 }
 
-// How a sequence number stands to the last newest one.
+// How a sequence number stands to what the record has accepted.
 pub enum Kind {
     Newer,
     Repeat,
     Older,
+    Late,
 }
 
 // A record that has accepted nothing; its numbers are 0.
@@ -38,28 +52,50 @@ pub fn fresh() -> Record
         repeat: 0,
         older: 0,
         refused: 0,
+        late: 0,
+        seen: 0,
     }
 }
 
-// What an accepted frame is whose number stands so to the last newest one.
-fn kind_of(order: Order) -> Kind
-    ensures { λ r. ⌜ r ≡ kindOf order ⌝ }
+// What an accepted frame is that lies this far behind the last newest one: beyond the memory's reach it is older.
+fn behind_by(seen: u32, distance: u16) -> Kind
+    requires { ⌜ 1 ≤ distance ⌝ }
+    ensures { λ r. ⌜ r ≡ behindBy seen distance ⌝ }
 {
-    match order {
-        Order::Same => Kind::Repeat,
-        Order::Ahead => Kind::Newer,
-        Order::Behind => Kind::Older,
+    if distance > 32 {
+        return Kind::Older;
     }
+    if seen_at(seen, distance) {
+        return Kind::Repeat;
+    }
+    Kind::Late
 }
 
 // How an accepted frame with this number stands to what the record has accepted. The first is newer, whatever the last number says.
 pub fn standing_of(before: Record, sequence: u16) -> Kind
     ensures { λ r. ⌜ r ≡ standing before sequence ⌝ }
 {
-    if before.accepted {
-        return kind_of(compare(sequence, before.last));
+    if !before.accepted {
+        return Kind::Newer;
     }
-    Kind::Newer
+    match compare(sequence, before.last) {
+        Order::Same => {
+            return Kind::Repeat;
+        }
+        Order::Ahead => {
+            return Kind::Newer;
+        }
+        Order::Behind => {
+            return behind_by(before.seen, lag_of(sequence, before.last));
+        }
+    }
+}
+
+// How many of the 32 numbers just below the last newest one were not accepted.
+pub fn unseen_of(before: Record) -> u32
+    ensures { λ r. ⌜ r ≡ unseenIn (before .seen) ⌝ }
+{
+    count_unseen(before.seen)
 }
 
 // One more; a count at the top stays there, since a count that wraps would tell of a receiver that heard nothing.
@@ -69,8 +105,20 @@ fn one_more(count: u32) -> u32
     if count < 4294967295 { count + 1 } else { count }
 }
 
-// The record after an accepted frame of this kind: only a newer one moves the last number.
+// The memory once a newer number is the last. The first frame leaves all 32 unseen, whatever the memory says.
+fn memory_after(before: Record, sequence: u16) -> u32
+    requires { ⌜ Newer ≡ standing before sequence ⌝ }
+    ensures { λ r. ⌜ r ≡ memoryAfter before sequence ⌝ }
+{
+    if before.accepted {
+        return slide(before.seen, lead_of(sequence, before.last));
+    }
+    0
+}
+
+// The record after an accepted frame of this kind: only a newer one moves the last number, and a late one is remembered.
 fn counted(before: Record, sequence: u16, kind: Kind) -> Record
+    requires { ⌜ kind ≡ standing before sequence ⌝ }
     ensures { λ r. ⌜ r ≡ countedAs before sequence kind ⌝ }
 {
     let mut next = before;
@@ -78,6 +126,7 @@ fn counted(before: Record, sequence: u16, kind: Kind) -> Record
     match kind {
         Kind::Newer => {
             next.last = sequence;
+            next.seen = memory_after(before, sequence);
             next.newer = one_more(before.newer);
             return next;
         }
@@ -87,6 +136,11 @@ fn counted(before: Record, sequence: u16, kind: Kind) -> Record
         }
         Kind::Older => {
             next.older = one_more(before.older);
+            return next;
+        }
+        Kind::Late => {
+            next.seen = see(before.seen, lag_of(sequence, before.last));
+            next.late = one_more(before.late);
             return next;
         }
     }

@@ -1,7 +1,7 @@
 // How one sequence number stands to another: document 01, section Receiver's record. Numbers go round at 65536, and their wrapped difference
 // alone decides; what a receiver makes of it is the record's.
 ghost use mathlib.Core.Path.{_≡_};
-ghost use Rattle.record.specs.Order.{lead, compared};
+ghost use Rattle.record.specs.Order.{lead, lag, compared};
 
 // A number is the other one again, ahead of it by 1 to 32767, or behind it.
 pub enum Order {
@@ -11,10 +11,17 @@ pub enum Order {
 }
 
 // The new number minus the last, wrapped at 65536. A plain comparison would take 2 for older than 65535.
-fn lead_of(new: u16, last: u16) -> u16
+pub fn lead_of(new: u16, last: u16) -> u16
     ensures { λ r. ⌜ r ≡ lead new last ⌝ }
 {
     std::num::wrapping_sub_u16(new, last)
+}
+
+// The last number minus the new: how far behind a number is that is not ahead.
+pub fn lag_of(new: u16, last: u16) -> u16
+    ensures { λ r. ⌜ r ≡ lag new last ⌝ }
+{
+    std::num::wrapping_sub_u16(0, lead_of(new, last))
 }
 
 // How the new number stands to the last.

@@ -9,7 +9,7 @@ use native.Mathlib.Omega.{arith}
 use lib.Dec.{eqb, ltb}
 use borrow.Author.Tests.{eq-eqb, ne-eqb, lt-ltb, le-ltb}
 use Rattle.algebra.specs.Tests.{if_then_else_}
-use Rattle.record.specs.Order.{lead, compared}
+use Rattle.record.specs.Order.{lead, lag, compared}
 use Rattle.record.specs.declared.order.Order.{Order}
 use Rattle.record.specs.declared.order.Order.the-variants.{Same, Ahead, Behind}
 
@@ -35,12 +35,12 @@ pub record Follows (a b most : ℕ) : Type 0 where
   pub comes : b ≡ (a + by) % 65536
 
 -- what each order says of the wrapped difference
-abbrev Says : ℕ → Order → Type 0
+abbrev pub Says : ℕ → Order → Type 0
 Says d Same = d ≡ 0
 Says d Ahead = (1 ≤ d) × (d ≤ 32767)
 Says d Behind = 32768 ≤ d
 
-says : (new last : ℕ) → Says (lead new last) (compared new last)
+pub says : (new last : ℕ) → Says (lead new last) (compared new last)
 says new last = elim (ℕ-discrete (lead new last) 0) [
   | yes z ↦ rw (← compared-same new last (lead new last) refl z) z
   | no n ↦ elim (decLt (lead new last) 32768) [
@@ -98,3 +98,7 @@ compared-true t top a b =
     (λ e. sym (compared-same (t % 65536) (top % 65536) 0 (omega arith) refl))
     (λ l. sym (compared-ahead (t % 65536) (top % 65536) (t - top) (omega arith) (omega arith) (omega arith)))
     (λ l. sym (compared-behind (t % 65536) (top % 65536) (65536 - (top - t)) (omega arith) (omega arith) (omega arith)))
+
+-- and one behind it lags by as many numbers
+pub lag-true : (t top : ℕ) → t < top → top ≤ t + 32768 → lag (t % 65536) (top % 65536) ≡ top - t
+lag-true t top l b = omega arith

@@ -4,19 +4,20 @@ use mathlib.Core.Path.{_≡_, refl, sym, ap, _∙_}
 use mathlib.Core.Bool.{Bool, true, false, _||_}
 use mathlib.Core.List.{List, [], _∷_, map}
 use mathlib.Core.Logic.{_≢_}
-use Prim.Native.Nat.{ℕ, _+_, _%_, _≤_, _<_, min, max}
+use Prim.Native.Nat.{ℕ, _+_, _-_, _%_, _≤_, _<_, min, max}
 use native.Mathlib.Decide.{ℕ-discrete}
 use native.Mathlib.Omega.{arith}
 use lib.Dec.{eqb, ltb}
 use borrow.Author.Tests.{eq-eqb, ne-eqb, lt-ltb}
 use Rattle.algebra.specs.Tests.{if_then_else_, oneIf}
-use Rattle.record.specs.Order.Laws.{trueOrder, by-order, compared-true}
-use Rattle.record.specs.Record.{countedAs, lostAfter, kindOf, standing, noted}
-use Rattle.record.specs.Record.Laws.{standing-again, standing-first, noted-accepted}
+use Rattle.record.specs.Order.{lag}
+use Rattle.record.specs.Order.Laws.{trueOrder, by-order, compared-true, lag-true}
+use Rattle.record.specs.Record.{countedAs, lostAfter, behindBy, kindOf, standing, noted}
+use Rattle.record.specs.Record.Laws.{by-memory, standing-again, standing-first, noted-accepted}
 use Rattle.record.specs.declared.order.Order.the-variants.{Behind}
 use Rattle.record.specs.declared.Record.{Record}
 use Rattle.record.specs.declared.Kind.{Kind}
-use Rattle.record.specs.declared.Kind.the-variants.{Newer, Repeat, Older}
+use Rattle.record.specs.declared.Kind.the-variants.{Newer, Repeat, Older, Late}
 
 -- what a frame was answered, and its sequence number
 pub record Heard : Type 0 where
@@ -43,7 +44,7 @@ tally test (a ∷ rest) = oneIf (test a) + tally test rest
 
 -- the accepted frames that a record has counted
 abbrev pub frames : Record → ℕ
-frames h = h .newer + h .repeat + h .older
+frames h = h .newer + h .repeat + h .older + h .late
 
 -- what an answer adds, where it is an accepted frame or a refusal 4 or 5
 record Adds (accepts loses : Bool) (h r : Record) : Type 0 where
@@ -55,6 +56,7 @@ adds-kind : (h : Record) (new : ℕ) (k : Kind) → Adds true false h (countedAs
 adds-kind h new Newer = record { ever = refl; accepted = λ f. omega arith; lost = λ f. omega arith }
 adds-kind h new Repeat = record { ever = refl; accepted = λ f. omega arith; lost = λ f. omega arith }
 adds-kind h new Older = record { ever = refl; accepted = λ f. omega arith; lost = λ f. omega arith }
+adds-kind h new Late = record { ever = refl; accepted = λ f. omega arith; lost = λ f. omega arith }
 
 adds-refusal : (h : Record) (loses : Bool) → Adds false loses h (if loses then lostAfter h else h)
 adds-refusal h true = record { ever = refl; accepted = λ f. omega arith; lost = λ f. refl }
@@ -120,9 +122,17 @@ pub record Stands (h : Record) (top : ℕ) : Type 0 where
   pub accepted : h .accepted ≡ true
   pub last : h .last ≡ top % 65536
 
+-- how frame t stands to frame top by the sender's own numbers, where the memory is that of top
+abbrev pub trueKind : (memory t top : ℕ) → Kind
+trueKind memory t top = kindOf memory (top - t) (trueOrder t top)
+
 -- a frame near enough is judged as the sender's own numbers say
-pub judged : (h : Record) (top t : ℕ) → Stands h top → t ≤ top + 32767 → top ≤ t + 32768 → standing h (t % 65536) ≡ kindOf (trueOrder t top)
-judged h top t s a b = sym (standing-again h (t % 65536) (s .accepted)) ∙ rw (s .last) (ap kindOf (compared-true t top a b))
+pub judged : (h : Record) (top t : ℕ) → Stands h top → t ≤ top + 32767 → top ≤ t + 32768 → standing h (t % 65536) ≡ trueKind (h .seen) t top
+judged h top t s a b =
+    sym (standing-again h (t % 65536) (s .accepted))
+    ∙ rw (s .last, compared-true t top a b)
+    (by-order (λ o. kindOf (h .seen) (lag (t % 65536) (top % 65536)) o ≡ kindOf (h .seen) (top - t) o) t top
+    (λ e. refl) (λ l. refl) (λ l. ap (behindBy (h .seen)) (lag-true t top l b)))
 
 stands-refused : (h : Record) (top number new : ℕ) → Stands h top → number ≢ 0 → Stands (noted h number new) top
 unfolding noted
@@ -132,12 +142,15 @@ stands-refused h top number new s n = rw (ne-eqb number 0 n) (by-test (eqb numbe
     by-test true = record { accepted = s .accepted; last = s .last }
     by-test false = s
 
-stands-order : (h : Record) (top t : ℕ) → Stands h top → Stands (countedAs h (t % 65536) (kindOf (trueOrder t top))) (max top t)
+stands-order : (h : Record) (top t : ℕ) → Stands h top → Stands (countedAs h (t % 65536) (trueKind (h .seen) t top)) (max top t)
 stands-order h top t s =
-    by-order (λ o. Stands (countedAs h (t % 65536) (kindOf o)) (max top t)) t top
+    by-order (λ o. Stands (countedAs h (t % 65536) (kindOf (h .seen) (top - t) o)) (max top t)) t top
     (λ e. record { accepted = refl; last = omega arith })
     (λ l. record { accepted = refl; last = omega arith })
-    (λ l. record { accepted = refl; last = omega arith })
+    (λ l. by-memory (h .seen) (top - t) (λ k. Stands (countedAs h (t % 65536) k) (max top t))
+    (λ far. record { accepted = refl; last = omega arith })
+    (λ near e. record { accepted = refl; last = omega arith })
+    (λ near e. record { accepted = refl; last = omega arith }))
 
 stands-step : (h : Record) (top : ℕ) (a : Heard) → Stands h top → (a .number ≡ 0 → (a .sequence ≤ top + 32767) × (top ≤ a .sequence + 32768))
     → Stands (noted h (a .number) (a .sequence % 65536)) (higher top a)
@@ -163,12 +176,14 @@ newest-from-first h first heard n paced = newest (noted h 0 (first % 65536)) fir
     begun : Stands (noted h 0 (first % 65536)) first
     begun = rw (← noted-accepted h 0 (first % 65536) refl, ← standing-first h (first % 65536) n) (record { accepted = refl; last = refl })
 
--- a late copy is older, and moves nothing but that count: whatever came in between, a frame that at most 32768 numbers have overtaken
--- is never again the newest
+-- a late copy is behind, and so is late, repeat or older by the memory: whatever came in between, a frame that at most 32768 numbers have
+-- overtaken is never again the newest
 pub late-copy : (h : Record) (top : ℕ) (heard : List Heard) (t : ℕ) → Stands h top → Paced top heard
     → t < highest top heard → highest top heard ≤ t + 32768
-    → noted (after h (map carried heard)) 0 (t % 65536) ≡ countedAs (after h (map carried heard)) (t % 65536) Older
+    → noted (after h (map carried heard)) 0 (t % 65536)
+    ≡ countedAs (after h (map carried heard)) (t % 65536) (behindBy (after h (map carried heard) .seen) (highest top heard - t))
 late-copy h top heard t s paced l few =
     let r : Record = after h (map carried heard) in
     let behind : trueOrder t (highest top heard) ≡ Behind = by-order (λ o. o ≡ Behind) t (highest top heard) (λ e. absurd (omega arith)) (λ m. absurd (omega arith)) (λ m. refl) in
-    sym (noted-accepted r 0 (t % 65536) refl) ∙ ap (countedAs r (t % 65536)) (judged r (highest top heard) t (newest h top heard s paced) (omega arith) few ∙ ap kindOf behind)
+    sym (noted-accepted r 0 (t % 65536) refl)
+    ∙ ap (countedAs r (t % 65536)) (judged r (highest top heard) t (newest h top heard s paced) (omega arith) few ∙ ap (kindOf (r .seen) (highest top heard - t)) behind)
