@@ -26,6 +26,7 @@ pub use record::fresh;
 pub use record::note;
 pub use record::note_in;
 pub use record::standing_of;
+pub use record::unseen_of;
 
 // The receiver's whole call.
 pub use hearing::Heard;

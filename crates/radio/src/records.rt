@@ -97,12 +97,11 @@ pub extern "C" fn yaxo_record_fresh() -> LentRecord
     }
 }
 
-// How a sequence number stands to what a record has accepted: 0 newer, 1 repeat, 2 older, 3 late. Only these three fields decide.
-#[no_mangle]
-pub extern "C" fn yaxo_record_standing(accepted: u8, last: u16, seen: u32, sequence: u16) -> u8
-    ensures { λ r. ⌜ r ≡ kindNumber (standing (recordOf (judgedBy accepted last seen)) sequence) ⌝ }
+// A record of which only these three are known. They alone decide how a number stands, and which are unseen.
+fn judged_by(accepted: u8, last: u16, seen: u32) -> LentRecord
+    ensures { λ r. ⌜ r ≡ judgedBy accepted last seen ⌝ }
 {
-    let lent = LentRecord {
+    LentRecord {
         accepted,
         last,
         newer: 0,
@@ -111,26 +110,25 @@ pub extern "C" fn yaxo_record_standing(accepted: u8, last: u16, seen: u32, seque
         refused: 0,
         late: 0,
         seen,
-    };
+    }
+}
+
+// How a sequence number stands to what a record has accepted: 0 newer, 1 repeat, 2 older, 3 late.
+#[no_mangle]
+pub extern "C" fn yaxo_record_standing(accepted: u8, last: u16, seen: u32, sequence: u16) -> u8
+    ensures { λ r. ⌜ r ≡ kindNumber (standing (recordOf (judgedBy accepted last seen)) sequence) ⌝ }
+{
+    let lent = judged_by(accepted, last, seen);
     let kind = standing_of(record_of(lent), sequence);
     kind_number(kind)
 }
 
-// How many of the 32 numbers just below a record's newest one were not accepted. Only this field decides.
+// How many of the 32 numbers just below a record's newest one were not accepted.
 #[no_mangle]
 pub extern "C" fn yaxo_record_unseen(seen: u32) -> u32
     ensures { λ r. ⌜ r ≡ unseenIn seen ⌝ }
 {
-    let lent = LentRecord {
-        accepted: 0,
-        last: 0,
-        newer: 0,
-        repeat: 0,
-        older: 0,
-        refused: 0,
-        late: 0,
-        seen,
-    };
+    let lent = judged_by(0, 0, seen);
     unseen_of(record_of(lent))
 }
 

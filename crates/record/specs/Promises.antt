@@ -2,6 +2,7 @@
 -- Assumes nothing.
 use mathlib.Core.Path.{_≡_, sym, _∙_}
 use Prim.Native.Nat.{ℕ}
+use Rattle.record.specs.Memory.{unseenIn}
 use Rattle.record.specs.Record.{freshRecord, standing, noted}
 use Rattle.record.specs.declared.Record.{Record}
 use Rattle.record.specs.declared.Kind.{Kind}
@@ -13,9 +14,12 @@ pub record Notes (before : Record) (number sequence : ℕ) (next : Record) : Typ
 pub notes-once : (before : Record) (number sequence : ℕ) (r s : Record) → Notes before number sequence r → Notes before number sequence s → r ≡ s
 notes-once before number sequence r s p q = p .outcome ∙ sym (q .outcome)
 
--- `fresh` and `standing_of` promise an equation
+-- `fresh`, `standing_of` and `unseen_of` promise an equation
 pub fresh-once : (r s : Record) → r ≡ freshRecord → s ≡ freshRecord → r ≡ s
 fresh-once r s p q = cc
 
 pub standing-once : (before : Record) (sequence : ℕ) (r s : Kind) → r ≡ standing before sequence → s ≡ standing before sequence → r ≡ s
 standing-once before sequence r s p q = cc
+
+pub unseen-once : (before : Record) (r s : ℕ) → r ≡ unseenIn (before .seen) → s ≡ unseenIn (before .seen) → r ≡ s
+unseen-once before r s p q = cc

@@ -14,6 +14,8 @@ use Rattle.record.specs.declared.Kind.{Kind}
 use Rattle.record.specs.declared.Kind.the-variants.{Newer, Repeat, Older, Late}
 pub mod Laws
 pub mod History
+pub mod Recall
+pub mod Rounds
 
 -- one more; a count at 4294967295 stays there
 abbrev pub oneMore : ℕ → ℕ

@@ -5,3 +5,4 @@ pub mod Words
 pub mod Far
 pub mod Slots
 pub mod Judged
+pub mod Late

@@ -97,5 +97,5 @@ worked-table = record {
     sends 2 2 4 line224 (1 ∷ 2 ∷ 3 ∷ 4 ∷ 5 ∷ 6 ∷ 7 ∷ 8 ∷ []),
     receives 2 2 4 line224 (1 ∷ 0 ∷ 3 ∷ 0 ∷ 5 ∷ 2 ∷ 7 ∷ 4 ∷ []) (0 ∷ 0 ∷ 0 ∷ 0 ∷ 0 ∷ 0 ∷ 0 ∷ 0 ∷ []) refl (below-same 2 8 0 (lit< tt)),
   );
-  p13 = (judges 65535 2 Newer refl, judges 0 32767 Newer refl, judges 0 32768 Older refl);
+  p13 = (judges 65535 2 Newer (λ m. refl), judges 0 32767 Newer (λ m. refl), judges 0 32768 Older (λ m. refl));
 }

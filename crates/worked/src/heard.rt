@@ -2,7 +2,7 @@
 use record::Kind;
 use record::Record;
 
-// A record whose last newest number is this one.
+// A record whose last newest number is this one, and that has seen none below it.
 fn heard(last: u16) -> Record {
     Record {
         accepted: true,
@@ -11,6 +11,8 @@ fn heard(last: u16) -> Record {
         repeat: 0,
         older: 0,
         refused: 0,
+        late: 0,
+        seen: 0,
     }
 }
 
@@ -24,6 +26,7 @@ pub fn is_newer(last: u16, new: u16) -> bool {
         Kind::Newer => after.newer == 2,
         Kind::Repeat => false,
         Kind::Older => false,
+        Kind::Late => false,
     }
 }
 
@@ -37,5 +40,6 @@ pub fn is_older(last: u16, new: u16) -> bool {
         Kind::Newer => false,
         Kind::Repeat => false,
         Kind::Older => after.older == 1,
+        Kind::Late => false,
     }
 }

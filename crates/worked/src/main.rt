@@ -1,7 +1,9 @@
-// Runs the paper's worked table and its limits: document 01, section Worked table. What is proved of them stands in specs/.
+// Runs the paper's worked table and its limits: document 01, section Worked table, and the record's memory: document 02, No. 7. What is
+// proved of them stands in specs/.
 // It reads nothing, and prints a line for each check: its name and `ok`, or `WRONG` where an answer is not the paper's.
 mod expect;
 mod heard;
+mod late;
 mod limits;
 mod reach;
 mod say;
@@ -15,4 +17,5 @@ fn main() {
     limits::say_words();
     limits::say_messages();
     reach::say_reach();
+    late::say_late();
 }

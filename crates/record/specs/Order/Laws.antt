@@ -99,6 +99,9 @@ compared-true t top a b =
     (λ l. sym (compared-ahead (t % 65536) (top % 65536) (t - top) (omega arith) (omega arith) (omega arith)))
     (λ l. sym (compared-behind (t % 65536) (top % 65536) (65536 - (top - t)) (omega arith) (omega arith) (omega arith)))
 
--- and one behind it lags by as many numbers
+-- one ahead of it leads, and one behind it lags, by as many numbers
+pub lead-true : (t top : ℕ) → top < t → t ≤ top + 32767 → lead (t % 65536) (top % 65536) ≡ t - top
+lead-true t top l a = omega arith
+
 pub lag-true : (t top : ℕ) → t < top → top ≤ t + 32768 → lag (t % 65536) (top % 65536) ≡ top - t
 lag-true t top l b = omega arith

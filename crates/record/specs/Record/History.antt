@@ -152,7 +152,7 @@ stands-order h top t s =
     (λ near e. record { accepted = refl; last = omega arith })
     (λ near e. record { accepted = refl; last = omega arith }))
 
-stands-step : (h : Record) (top : ℕ) (a : Heard) → Stands h top → (a .number ≡ 0 → (a .sequence ≤ top + 32767) × (top ≤ a .sequence + 32768))
+pub stands-step : (h : Record) (top : ℕ) (a : Heard) → Stands h top → (a .number ≡ 0 → (a .sequence ≤ top + 32767) × (top ≤ a .sequence + 32768))
     → Stands (noted h (a .number) (a .sequence % 65536)) (higher top a)
 stands-step h top a s paced = elim (ℕ-discrete (a .number) 0) [
   | yes e ↦
@@ -169,12 +169,12 @@ newest h top (a ∷ rest) s paced =
     newest (noted h (a .number) (a .sequence % 65536)) (higher top a) rest (stands-step h top a s (paced .0)) (paced .1)
 
 -- the same from the first accepted frame on, whatever the last number was before
+pub stands-first : (h : Record) (first : ℕ) → h .accepted ≡ false → Stands (noted h 0 (first % 65536)) first
+stands-first h first n = rw (← noted-accepted h 0 (first % 65536) refl, ← standing-first h (first % 65536) n) (record { accepted = refl; last = refl })
+
 pub newest-from-first : (h : Record) (first : ℕ) (heard : List Heard) → h .accepted ≡ false → Paced first heard
     → Stands (after (noted h 0 (first % 65536)) (map carried heard)) (highest first heard)
-newest-from-first h first heard n paced = newest (noted h 0 (first % 65536)) first heard begun paced
-  where
-    begun : Stands (noted h 0 (first % 65536)) first
-    begun = rw (← noted-accepted h 0 (first % 65536) refl, ← standing-first h (first % 65536) n) (record { accepted = refl; last = refl })
+newest-from-first h first heard n paced = newest (noted h 0 (first % 65536)) first heard (stands-first h first n) paced
 
 -- a late copy is behind, and so is late, repeat or older by the memory: whatever came in between, a frame that at most 32768 numbers have
 -- overtaken is never again the newest
