@@ -263,35 +263,44 @@ yaxo_received yaxo_frame_receive(yaxo_framing framing,
 /*
  * What a receiver has heard. Make it with yaxo_record_fresh and lend it to every call that receives.
  * `accepted` is 0 until a frame was accepted. Any other value means that one was, and stays as it is.
+ * `seen` is a memory of the 32 numbers just below the newest one: the bit of weight 2^(d - 1) is 1 where the number `last` - d
+ * was accepted, for d from 1 to 32. Numbers go round at 65536, so that 65535 is just below 0.
  * A count at 4294967295 stays there.
  */
 typedef struct yaxo_record {
     uint8_t accepted;
     uint16_t last;    /* the newest sequence number */
-    uint32_t newer;   /* accepted frames that were newer than all before, that repeated the newest, and that were older */
-    uint32_t repeat;
-    uint32_t older;
+    uint32_t newer;   /* accepted frames that were newer than all before */
+    uint32_t repeat;  /* accepted frames that repeated the newest number, or one of the 32 below it that is in the memory */
+    uint32_t older;   /* accepted frames that were farther back than 32, which are not remembered */
     uint32_t refused; /* frames that were answered 4 or 5 */
+    uint32_t late;    /* accepted frames that were the first copy of one of the 32 numbers below the newest */
+    uint32_t seen;    /* which of these 32 were accepted */
 } yaxo_record;
 
-/* How a sequence number stands to the newest one: ahead of it by 1 to 32767, the same, or the rest; numbers go round at
- * 65536. The first accepted frame is newer. */
-#define YAXO_NEWER 0
-#define YAXO_REPEAT 1
-#define YAXO_OLDER 2
+/* How a sequence number stands to the newest one and to the memory. The first accepted frame is newer. */
+#define YAXO_NEWER 0  /* ahead by 1 to 32767 */
+#define YAXO_REPEAT 1 /* the same number, or behind by 1 to 32 and seen */
+#define YAXO_OLDER 2  /* behind by 33 to 32768 */
+#define YAXO_LATE 3   /* behind by 1 to 32 and not seen */
 
 /* A record that has accepted nothing; all its numbers are 0. */
 yaxo_record yaxo_record_fresh(void);
 
-/* The standing of a sequence number, YAXO_NEWER, YAXO_REPEAT or YAXO_OLDER, to a record's `accepted` and `last`. Ask it
- * before the frame is noted: afterwards the newest frame is its own repeat. */
-uint8_t yaxo_record_standing(uint8_t accepted, uint16_t last, uint16_t sequence);
+/* The standing of a sequence number, YAXO_NEWER, YAXO_REPEAT, YAXO_OLDER or YAXO_LATE, to a record's `accepted`, `last` and
+ * `seen`. Ask it before the frame is noted: afterwards a newer or late frame is its own repeat. */
+uint8_t yaxo_record_standing(uint8_t accepted, uint16_t last, uint32_t seen, uint16_t sequence);
+
+/* How many of the 32 numbers below the newest were not accepted: the zeros of a record's `seen`. */
+uint32_t yaxo_record_unseen(uint32_t seen);
 
 /*
- * Notes what a frame was answered: 0 counts it as newer, repeat or older, and only newer moves `last`; 4 and 5 count it as
- * refused; every other number leaves the record as it was. yaxo_record_note gives the record after it,
- * yaxo_record_note_in updates the lent one. The calls that hear, yaxo_hear, yaxo_replay, yaxo_masts_hear and those of the
- * same names with _in, do it themselves.
+ * Notes what a frame was answered: 0 counts it as newer, repeat, older or late; 4 and 5 count it as refused; every other
+ * number leaves the record as it was. Only newer moves `last`, and the memory slides with it: the newest number before becomes
+ * seen, a number that was skipped is unseen, and what is then farther back than 32 is forgotten. The first accepted frame
+ * leaves all 32 unseen, whatever `seen` was. Late becomes seen. Nothing else changes the memory.
+ * yaxo_record_note gives the record after it, yaxo_record_note_in updates the lent one. The calls that hear, yaxo_hear,
+ * yaxo_replay, yaxo_masts_hear and those of the same names with _in, do it themselves.
  */
 yaxo_record yaxo_record_note(yaxo_record before, uint8_t answer, uint16_t sequence);
 void yaxo_record_note_in(yaxo_record *record, uint8_t answer, uint16_t sequence);
