@@ -148,6 +148,16 @@ static void line(void)
     SAME(marks, { 1, 0, 1, 0, 0, 0, 0, 0 });
 }
 
+static bool has_counts(yaxo_record r, uint32_t newer, uint32_t repeat, uint32_t older, uint32_t refused, uint32_t late)
+{
+    return r.newer == newer && r.repeat == repeat && r.older == older && r.refused == refused && r.late == late;
+}
+
+static bool has_memory(yaxo_record r, unsigned accepted, unsigned last, uint32_t seen)
+{
+    return r.accepted == accepted && r.last == last && r.seen == seen;
+}
+
 /* The bench reader's example: a frame of two words, sent, damaged, and received with the record. */
 static void frame(void)
 {
@@ -186,39 +196,100 @@ static void frame(void)
     SAME(area, { 0, 65, 1, 0, 2, 1 });
     SAME(map, { 0, 0, 1, 1, 0, 0, 0, 0, 0, 0 });
 
-    EXPECT(yaxo_record_standing(record.accepted, record.last, 258) == YAXO_NEWER);
+    EXPECT(yaxo_record_standing(record.accepted, record.last, record.seen, 258) == YAXO_NEWER);
     memset(map, 9, sizeof map);
     got = yaxo_hear_in(&record, framing, slots, 10, none, 10, area, 6, map, 10);
     EXPECT(got.answer == YAXO_DONE && got.sequence == 258 && got.start == 1 && got.length == 1);
     SAME(map, { 0, 0, 1, 1, 0, 0, 0, 0, 0, 0 });
-    EXPECT(record.accepted == 1 && record.last == 258 && record.newer == 1);
-    EXPECT(yaxo_record_standing(record.accepted, record.last, 258) == YAXO_REPEAT);
-    EXPECT(yaxo_record_standing(record.accepted, record.last, 257) == YAXO_OLDER);
-    EXPECT(yaxo_record_standing(1, 65535, 2) == YAXO_NEWER);
+    EXPECT(has_counts(record, 1, 0, 0, 0, 0) && has_memory(record, 1, 258, 0));
 
     /* Two errors in word 0: refused, area and map are zeros, and the record counts it. */
     slots[4] = 77;
     heard = yaxo_hear(record, framing, slots, 10, none, 10, area, 6, map, 10);
     EXPECT(heard.answer.answer == YAXO_BEYOND_REACH && heard.answer.word == 0 && heard.answer.length == 0);
-    EXPECT(heard.next.refused == 1 && heard.next.newer == 1 && heard.next.last == 258 && record.refused == 0);
+    EXPECT(has_counts(heard.next, 1, 0, 0, 1, 0) && has_memory(heard.next, 1, 258, 0) && record.refused == 0);
     SAME(area, { 0, 0, 0, 0, 0, 0 });
     EXPECT(memcmp(map, none, 10) == 0);
 
-    /* The record where nothing but 0, 4 and 5 changes it, and a byte for `accepted` that C alone could have put there. */
-    record.accepted = 7;
-    yaxo_record_note_in(&record, YAXO_SYMBOL, 300);
-    EXPECT(record.accepted == 7 && record.last == 258 && record.newer == 1 && record.refused == 0);
-    yaxo_record_note_in(&record, YAXO_TRAILER, 300);
-    EXPECT(record.accepted == 7 && record.last == 258 && record.refused == 1);
-    yaxo_record_note_in(&record, YAXO_DONE, 257);
-    EXPECT(record.older == 1 && record.last == 258);
-    record = yaxo_record_note(record, YAXO_DONE, 300);
-    EXPECT(record.accepted == 7 && record.last == 300 && record.newer == 2 && record.repeat == 0 && record.older == 1 && record.refused == 1);
+    /* The frame again where the newest number is two ahead of it: it is late, and then a repeat. */
+    slots[4] = sent[4];
+    record.last = 260;
+    record.seen = 0x80000001;
+    heard = yaxo_hear(record, framing, slots, 10, none, 10, area, 6, map, 10);
+    EXPECT(heard.answer.answer == YAXO_DONE && heard.answer.sequence == 258);
+    EXPECT(has_counts(heard.next, 1, 0, 0, 0, 1) && has_memory(heard.next, 1, 260, 0x80000003));
+    EXPECT(has_counts(record, 1, 0, 0, 0, 0) && has_memory(record, 1, 260, 0x80000001));
+    got = yaxo_hear_in(&record, framing, slots, 10, none, 10, area, 6, map, 10);
+    EXPECT(has_counts(record, 1, 0, 0, 0, 1) && has_memory(record, 1, 260, 0x80000003));
+    got = yaxo_hear_in(&record, framing, slots, 10, none, 10, area, 6, map, 10);
+    EXPECT(got.answer == YAXO_DONE && has_counts(record, 1, 1, 0, 0, 1) && has_memory(record, 1, 260, 0x80000003));
 }
 
-static bool has_counts(yaxo_record r, unsigned newer, unsigned repeat, unsigned older, unsigned refused)
+/* Every field of a record in its place, each standing, and the memory as it slides, by both calls that note. */
+static void record(void)
 {
-    return r.newer == newer && r.repeat == repeat && r.older == older && r.refused == refused;
+    const uint32_t top = 0xFFFFFFFF;
+    yaxo_record r = yaxo_record_fresh();
+    yaxo_record next;
+
+    EXPECT(sizeof r == 28 && offsetof(yaxo_record, last) == 2 && offsetof(yaxo_record, newer) == 4);
+    EXPECT(offsetof(yaxo_record, repeat) == 8 && offsetof(yaxo_record, older) == 12 && offsetof(yaxo_record, refused) == 16);
+    EXPECT(offsetof(yaxo_record, late) == 20 && offsetof(yaxo_record, seen) == 24);
+    EXPECT(offsetof(yaxo_heard, answer) == 32 && offsetof(yaxo_masts_heard, answer) == 32);
+    EXPECT(has_counts(r, 0, 0, 0, 0, 0) && has_memory(r, 0, 0, 0));
+
+    /* P13 of the worked table, and both ends of the memory. */
+    EXPECT(yaxo_record_standing(0, 0, 0, 0) == YAXO_NEWER && yaxo_record_standing(0, 258, top, 257) == YAXO_NEWER);
+    EXPECT(yaxo_record_standing(1, 65535, 0, 2) == YAXO_NEWER && yaxo_record_standing(1, 0, 0, 32767) == YAXO_NEWER);
+    EXPECT(yaxo_record_standing(1, 0, top, 32768) == YAXO_OLDER && yaxo_record_standing(1, 0, 0, 0) == YAXO_REPEAT);
+    EXPECT(yaxo_record_standing(1, 258, 0, 257) == YAXO_LATE && yaxo_record_standing(1, 258, 1, 257) == YAXO_REPEAT);
+    EXPECT(yaxo_record_standing(1, 258, top - 1, 257) == YAXO_LATE && yaxo_record_standing(7, 258, 0, 226) == YAXO_LATE);
+    EXPECT(yaxo_record_standing(1, 258, 0x80000000, 226) == YAXO_REPEAT && yaxo_record_standing(1, 258, top, 225) == YAXO_OLDER);
+    EXPECT(yaxo_record_standing(1, 2, 4, 65535) == YAXO_REPEAT && yaxo_record_standing(1, 2, 2, 65535) == YAXO_LATE);
+    EXPECT(yaxo_record_unseen(0) == 32 && yaxo_record_unseen(1) == 31 && yaxo_record_unseen(0x80000000) == 31);
+    EXPECT(yaxo_record_unseen(top) == 0 && yaxo_record_unseen(0xF0F0000F) == 20);
+
+    /* The first accepted frame forgets what was lent, which a refused one keeps. */
+    r.last = 256;
+    r.seen = top;
+    r = yaxo_record_note(r, YAXO_BEYOND_REACH, 0);
+    EXPECT(has_counts(r, 0, 0, 0, 1, 0) && has_memory(r, 0, 256, top));
+    next = yaxo_record_note(r, YAXO_DONE, 258);
+    EXPECT(has_counts(next, 1, 0, 0, 1, 0) && has_memory(next, 1, 258, 0));
+    yaxo_record_note_in(&r, YAXO_DONE, 258);
+    EXPECT(has_counts(r, 1, 0, 0, 1, 0) && has_memory(r, 1, 258, 0));
+
+    /* Nothing but 0, 4 and 5 changes the record, and a byte for `accepted` that C alone could have put there is kept. */
+    r.accepted = 7;
+    yaxo_record_note_in(&r, YAXO_SYMBOL, 300);
+    EXPECT(has_counts(r, 1, 0, 0, 1, 0) && has_memory(r, 7, 258, 0));
+    yaxo_record_note_in(&r, YAXO_TRAILER, 300);
+    EXPECT(has_counts(r, 1, 0, 0, 2, 0) && has_memory(r, 7, 258, 0));
+
+    /* Late once and then a repeat, at both ends of the memory; one farther back is older each time. */
+    next = yaxo_record_note(r, YAXO_DONE, 257);
+    EXPECT(has_counts(next, 1, 0, 0, 2, 1) && has_memory(next, 7, 258, 1) && has_memory(r, 7, 258, 0));
+    yaxo_record_note_in(&r, YAXO_DONE, 257);
+    EXPECT(has_counts(r, 1, 0, 0, 2, 1) && has_memory(r, 7, 258, 1));
+    yaxo_record_note_in(&r, YAXO_DONE, 257);
+    EXPECT(has_counts(r, 1, 1, 0, 2, 1) && has_memory(r, 7, 258, 1));
+    yaxo_record_note_in(&r, YAXO_DONE, 226);
+    EXPECT(has_counts(r, 1, 1, 0, 2, 2) && has_memory(r, 7, 258, 0x80000001));
+    yaxo_record_note_in(&r, YAXO_DONE, 225);
+    EXPECT(has_counts(r, 1, 1, 1, 2, 2) && has_memory(r, 7, 258, 0x80000001));
+
+    /* A step of two slides it, one of 32 keeps the old newest number alone, and one of 33 clears it. */
+    r = yaxo_record_note(r, YAXO_DONE, 260);
+    EXPECT(has_counts(r, 2, 1, 1, 2, 2) && has_memory(r, 7, 260, 6));
+    next = yaxo_record_note(r, YAXO_DONE, 293);
+    EXPECT(has_counts(next, 3, 1, 1, 2, 2) && has_memory(next, 7, 293, 0));
+    yaxo_record_note_in(&r, YAXO_DONE, 292);
+    EXPECT(has_counts(r, 3, 1, 1, 2, 2) && has_memory(r, 7, 292, 0x80000000));
+
+    /* A count at the top stays there, and the number is remembered all the same. */
+    r.late = top;
+    yaxo_record_note_in(&r, YAXO_DONE, 291);
+    EXPECT(has_counts(r, 3, 1, 1, 2, top) && has_memory(r, 7, 292, 0x80000001));
 }
 
 /* Whether a frame's result has these four numbers and, unless it was accepted, no figures. */
@@ -255,10 +326,10 @@ static void replay(void)
     yaxo_replayed got;
     yaxo_replay_heard heard;
 
-    EXPECT(sizeof results[0] == 104 && sizeof results[0] == RESULT * sizeof(uint16_t) && sizeof got == 16 && sizeof heard == 40);
+    EXPECT(sizeof results[0] == 104 && sizeof results[0] == RESULT * sizeof(uint16_t) && sizeof got == 16 && sizeof heard == 48);
     EXPECT(offsetof(yaxo_result, word) == 2 && offsetof(yaxo_result, sequence) == 4 && offsetof(yaxo_result, back) == 6);
     EXPECT(offsetof(yaxo_result, figures) == 8 && sizeof(yaxo_figures) == 6 && offsetof(yaxo_figures, marked) == 2);
-    EXPECT(offsetof(yaxo_figures, bits) == 4 && offsetof(yaxo_replayed, frames) == 8 && offsetof(yaxo_replay_heard, answer) == 24);
+    EXPECT(offsetof(yaxo_figures, bits) == 4 && offsetof(yaxo_replayed, frames) == 8 && offsetof(yaxo_replay_heard, answer) == 32);
     EXPECT(yaxo_frame_send(framing, (const uint8_t *)"A", 1, 258, slots, 10) == YAXO_DONE);
     EXPECT(yaxo_frame_send(framing, (const uint8_t *)"B", 1, 259, slots + 10, 10) == YAXO_DONE);
     EXPECT(yaxo_frame_send(framing, (const uint8_t *)"CD", 2, 260, slots + 20, 10) == YAXO_DONE);
@@ -282,7 +353,7 @@ static void replay(void)
     EXPECT(memcmp(&results[3], &old, sizeof old) == 0);
     SAME(areas, { 0, 65, 1, 0, 2, 1, 0, 0, 0, 0, 0, 0, 67, 68, 2, 0, 4, 1, 9 });
     SAME(maps, { 0, 0, 1, 0, 0, 0, 0, 0, 0, 0, 0, 0, 0, 0, 0, 0, 0, 0, 0, 0, 0, 0, 0, 0, 0, 0, 0, 0, 1, 0, 9 });
-    EXPECT(has_counts(record, 2, 0, 0, 1) && record.accepted == 1 && record.last == 260);
+    EXPECT(has_counts(record, 2, 0, 0, 1, 0) && has_memory(record, 1, 260, 2));
 
     /* A bad mark is its own frame's alone: area and map stay there, and the record does not count it. The record is given here. */
     marks[4] = 2;
@@ -293,8 +364,8 @@ static void replay(void)
     EXPECT(is_answered(heard.answer, YAXO_DONE, 3));
     EXPECT(has_result(&results[0], YAXO_SYMBOL, 0, 0, 0) && has_result(&results[1], YAXO_BEYOND_REACH, 1, 0, 0));
     EXPECT(has_result(&results[2], YAXO_DONE, 0, 260, 2) && memcmp(&results[3], &old, sizeof old) == 0);
-    EXPECT(has_counts(heard.next, 2, 1, 0, 2) && heard.next.accepted == 1 && heard.next.last == 260);
-    EXPECT(has_counts(record, 2, 0, 0, 1));
+    EXPECT(has_counts(heard.next, 2, 1, 0, 2, 0) && has_memory(heard.next, 1, 260, 2));
+    EXPECT(has_counts(record, 2, 0, 0, 1, 0) && has_memory(record, 1, 260, 2));
     SAME(areas, { 9, 9, 9, 9, 9, 9, 0, 0, 0, 0, 0, 0, 67, 68, 2, 0, 4, 1, 9 });
     SAME(maps, { 9, 9, 9, 9, 9, 9, 9, 9, 9, 9, 0, 0, 0, 0, 0, 0, 0, 0, 0, 0, 0, 0, 0, 0, 0, 0, 0, 0, 1, 0, 9 });
 
@@ -315,20 +386,30 @@ static void replay(void)
     EXPECT(is_answered(got, YAXO_SETTING, 0));
     heard = yaxo_replay(record, (yaxo_framing){ 2, 5, 2, 2 }, NULL, 0, NULL, 0, NULL, 0, NULL, 0, NULL, 0);
     EXPECT(is_answered(heard.answer, YAXO_SETTING, 0));
-    EXPECT(has_counts(heard.next, 2, 0, 0, 1) && heard.next.accepted == 7 && heard.next.last == 260);
-    EXPECT(has_counts(record, 2, 0, 0, 1) && record.accepted == 7 && record.last == 260);
+    EXPECT(has_counts(heard.next, 2, 0, 0, 1, 0) && has_memory(heard.next, 7, 260, 2));
+    EXPECT(has_counts(record, 2, 0, 0, 1, 0) && has_memory(record, 7, 260, 2));
     EXPECT(memcmp(kept, areas, sizeof areas) == 0 && memcmp(kept_maps, maps, sizeof maps) == 0);
     EXPECT(memcmp(kept_results, results, sizeof results) == 0);
 
-    /* No frames at all, and 64: the last 61 are zeros, which is an empty payload with the number 0. */
+    /* No frames at all, and 64: the last 61 are zeros, which is an empty payload with the number 0, far behind 260. */
     got = yaxo_replay_in(&record, framing, NULL, 0, NULL, 0, NULL, 0, NULL, 0, NULL, 0);
     EXPECT(is_answered(got, YAXO_DONE, 0));
-    EXPECT(has_counts(record, 2, 0, 0, 1) && record.accepted == 7 && record.last == 260);
+    EXPECT(has_counts(record, 2, 0, 0, 1, 0) && has_memory(record, 7, 260, 2));
     got = yaxo_replay_in(&record, framing, slots, 640, marks, 640, areas, 64 * A, maps, 640, results, 64 * RESULT);
     EXPECT(is_answered(got, YAXO_DONE, 64));
     EXPECT(has_result(&results[63], YAXO_DONE, 0, 0, 0) && memcmp(&results[64], &old, sizeof old) == 0);
     EXPECT(areas[383] == 0 && areas[384] == 9 && maps[639] == 0 && maps[640] == 9);
-    EXPECT(has_counts(record, 2, 1, 61, 2) && record.accepted == 7 && record.last == 260);
+    EXPECT(has_counts(record, 2, 1, 61, 2, 0) && has_memory(record, 7, 260, 2));
+
+    /* These 61 where the number 0 is 20 behind: the first of them is late, and each other one repeats it. */
+    record.last = 20;
+    heard = yaxo_replay(record, framing, slots + 30, 610, marks + 30, 610, areas, 61 * A, maps, 610, results, 61 * RESULT);
+    EXPECT(is_answered(heard.answer, YAXO_DONE, 61));
+    EXPECT(has_counts(heard.next, 2, 61, 61, 2, 1) && has_memory(heard.next, 7, 20, 0x80002));
+    EXPECT(has_counts(record, 2, 1, 61, 2, 0) && has_memory(record, 7, 20, 2));
+    got = yaxo_replay_in(&record, framing, slots + 30, 610, marks + 30, 610, areas, 61 * A, maps, 610, results, 61 * RESULT);
+    EXPECT(is_answered(got, YAXO_DONE, 61));
+    EXPECT(has_counts(record, 2, 61, 61, 2, 1) && has_memory(record, 7, 20, 0x80002));
 }
 
 /* Two masts: two copies of the frame above and of its neighbour, by each way in which one of them is used or none. */
@@ -379,7 +460,7 @@ static void masts(void)
     got = yaxo_masts_hear_in(&record, framing, sent, 10, three, 10, first, 6, first_map, 10,
                              sent, 10, none, 10, second, 6, second_map, 10);
     EXPECT(got.mast == YAXO_MAST_SECOND && got.frame.answer == YAXO_DONE && got.frame.start == 1 && got.frame.length == 1);
-    EXPECT(record.accepted == 1 && record.last == 258 && record.newer == 1 && record.refused == 0);
+    EXPECT(has_counts(record, 1, 0, 0, 0, 0) && has_memory(record, 1, 258, 0));
     SAME(first, { 0, 0, 0, 0, 0, 0 });
     EXPECT(memcmp(first_map, none, 10) == 0);
     memset(second, 9, 6);
@@ -388,7 +469,7 @@ static void masts(void)
                             sent, 9, none, 10, second, 6, second_map, 10);
     EXPECT(heard.answer.mast == YAXO_MAST_FIRST && heard.answer.frame.sequence == 259);
     EXPECT(heard.answer.frame.start == 0 && heard.answer.frame.length == 2);
-    EXPECT(heard.next.last == 259 && heard.next.newer == 2 && heard.next.refused == 0 && record.newer == 1);
+    EXPECT(has_counts(heard.next, 2, 0, 0, 0, 0) && has_memory(heard.next, 1, 259, 1) && has_memory(record, 1, 258, 0));
     SAME(first, { 66, 67, 2, 0, 3, 1 });
     SAME(second, { 9, 9, 9, 9, 9, 9 });
     SAME(second_map, { 9, 9, 9, 9, 9, 9, 9, 9, 9, 9 });
@@ -406,7 +487,7 @@ static void masts(void)
     got = yaxo_masts_hear_in(&record, framing, sent, 10, three, 10, first, 6, first_map, 10,
                              sent, 10, bad, 10, second, 6, second_map, 10);
     EXPECT(got.mast == YAXO_MAST_NEITHER && got.frame.answer == YAXO_BEYOND_REACH && got.frame.word == 1 && got.frame.length == 0);
-    EXPECT(record.last == 258 && record.newer == 1 && record.refused == 1);
+    EXPECT(has_counts(record, 1, 0, 0, 1, 0) && has_memory(record, 1, 258, 0));
 
     /* Two frames: neither is used, both are decoded and mapped, and the record stays. */
     next[9] ^= 1;
@@ -414,11 +495,23 @@ static void masts(void)
                              next, 10, one, 10, second, 6, second_map, 10);
     EXPECT(got.mast == YAXO_MAST_NEITHER && got.frame.answer == YAXO_DIFFER && got.frame.word == 0 && got.frame.sequence == 0);
     EXPECT(got.frame.start == 0 && got.frame.length == 0 && has_figures(got.frame.figures[0], 0, 0, 0));
-    EXPECT(record.last == 258 && record.newer == 1 && record.repeat == 0 && record.older == 0 && record.refused == 1);
+    EXPECT(has_counts(record, 1, 0, 0, 1, 0) && has_memory(record, 1, 258, 0));
     SAME(first, { 0, 65, 1, 0, 2, 1 });
     SAME(second, { 66, 67, 2, 0, 3, 1 });
     SAME(first_map, { 0, 0, 1, 0, 0, 0, 0, 0, 0, 0 });
     SAME(second_map, { 0, 0, 0, 0, 0, 0, 0, 0, 0, 1 });
+
+    /* One frame behind the newest number is late once, and then a repeat. */
+    record.last = 290;
+    heard = yaxo_masts_hear(record, framing, sent, 10, none, 10, first, 6, first_map, 10,
+                            sent, 10, none, 10, second, 6, second_map, 10);
+    EXPECT(has_counts(heard.next, 1, 0, 0, 1, 1) && has_memory(heard.next, 1, 290, 0x80000000) && has_memory(record, 1, 290, 0));
+    got = yaxo_masts_hear_in(&record, framing, sent, 10, none, 10, first, 6, first_map, 10,
+                             sent, 10, none, 10, second, 6, second_map, 10);
+    EXPECT(has_counts(record, 1, 0, 0, 1, 1) && has_memory(record, 1, 290, 0x80000000));
+    got = yaxo_masts_hear_in(&record, framing, sent, 10, none, 10, first, 6, first_map, 10,
+                             sent, 10, none, 10, second, 6, second_map, 10);
+    EXPECT(got.frame.answer == YAXO_DONE && has_counts(record, 1, 1, 0, 1, 1) && has_memory(record, 1, 290, 0x80000000));
 }
 
 /*
@@ -489,6 +582,7 @@ int main(void)
     block();
     line();
     frame();
+    record();
     replay();
     masts();
     cross();
