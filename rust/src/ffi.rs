@@ -166,9 +166,14 @@ pub fn record_fresh() -> Record {
     out
 }
 
-pub fn record_standing(accepted: u8, last: u16, sequence: u16) -> u8 {
+pub fn record_standing(accepted: u8, last: u16, seen: u32, sequence: u16) -> u8 {
     // Sound: numbers alone cross.
-    unsafe { header::yaxo_record_standing(accepted, last, sequence) }
+    unsafe { header::yaxo_record_standing(accepted, last, seen, sequence) }
+}
+
+pub fn record_unseen(seen: u32) -> u32 {
+    // Sound: numbers alone cross.
+    unsafe { header::yaxo_record_unseen(seen) }
 }
 
 pub fn record_note_in(record: &mut Record, answer: u8, sequence: u16) {

@@ -8,7 +8,7 @@
 //! |---|---|
 //! | encode and decode single words, with marks where the receiver distrusts a symbol | [`word::Setting`] |
 //! | send payloads with sequence numbers as interleaved frames, and receive them | [`frame::Setting`] |
-//! | know what is new, repeated, old or lost | [`record::Record`] |
+//! | know what is new, repeated, late, old or lost | [`record::Record`] |
 //! | hear up to 64 frames that were kept, at once | [`replay::Replay`] |
 //! | take the better of two copies of a frame, from two receivers | [`masts::Heard`] |
 //! | spread words over time without frames | [`line::Sender`], [`line::Receiver`] |

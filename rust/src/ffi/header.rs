@@ -100,6 +100,8 @@ pub struct Record {
     pub repeat: u32,
     pub older: u32,
     pub refused: u32,
+    pub late: u32,
+    pub seen: u32,
 }
 
 /// `yaxo_replayed`.
@@ -218,7 +220,8 @@ extern "C" {
         map_s: usize,
     );
     pub fn yaxo_record_fresh(out: *mut Record);
-    pub fn yaxo_record_standing(accepted: u8, last: u16, sequence: u16) -> u8;
+    pub fn yaxo_record_standing(accepted: u8, last: u16, seen: u32, sequence: u16) -> u8;
+    pub fn yaxo_record_unseen(seen: u32) -> u32;
     pub fn yaxo_record_note_in(record: *mut Record, answer: u8, sequence: u16);
     pub fn yaxo_replay_in(
         record: *mut Record,
