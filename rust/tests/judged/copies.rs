@@ -43,7 +43,7 @@ pub fn compared(s: Setting, record: &mut Record, masts: &[Reception; 2]) -> (Ans
     let answer = heard(s, Some(record), &mut ours);
     assert_eq!(answer, plain::hear(&mut judge, frame::plain(s), &mut theirs), "{s:?}");
     assert_eq!(ours, theirs, "{s:?}");
-    assert_eq!(record::plain(*record), judge, "{s:?}");
+    record::same(record, &judge, || format!("{s:?}"));
     assert_eq!(heard(s, None, &mut alone), answer, "{s:?}");
     assert_eq!(alone, ours, "{s:?}");
     // Each area and each map is as the copy's own call leaves it.

@@ -1,7 +1,7 @@
 //! Frames: sent, damaged, received, and every refusal.
 
 use reference::noise::Noise;
-use reference::{code, frame as plain, record as plain_record};
+use reference::{code, frame as plain};
 use yaxopetzo::frame::{Frame, Refused, Setting};
 use yaxopetzo::record::Record;
 use yaxopetzo::Refusal;
@@ -50,8 +50,8 @@ fn received(s: Setting, slots: &[u8], marks: &[u8], before: &[u8]) -> Answer {
 pub fn received_into(s: Setting, slots: &[u8], marks: &[u8], before: &[u8], map: &[u8]) -> (Answer, Vec<u8>) {
     let (mut ours, mut theirs) = (before.to_vec(), before.to_vec());
     let (mut our_map, mut their_map) = (map.to_vec(), map.to_vec());
-    let mut record = Record { accepted: true, last: 7, ..Record::fresh() };
-    let mut judge: plain_record::Record = record::plain(record);
+    let mut record = Record { accepted: true, last: 7, seen: 0x8000_0005, ..Record::fresh() };
+    let mut judge = record::plain(record);
     let answer = heard(s, &mut record, slots, marks, &mut ours, &mut our_map);
     let expected = plain::receive(plain(s), slots, marks, &mut theirs, &mut their_map);
     assert_eq!(answer, expected, "{s:?}");
@@ -61,7 +61,7 @@ pub fn received_into(s: Setting, slots: &[u8], marks: &[u8], before: &[u8], map:
         Ok(frame) => judge.note(0, frame.sequence),
         Err((number, _)) => judge.note(*number, 0),
     }
-    assert_eq!(record::plain(record), judge, "{s:?}");
+    record::same(&record, &judge, || format!("{s:?}"));
     let (mut alone, mut alone_map) = (before.to_vec(), map.to_vec());
     let number = s.receive(slots, marks, &mut alone, &mut alone_map);
     let number = number.map(|frame| frame.sequence).map_err(|refused| refused.why.number());
@@ -133,15 +133,15 @@ fn sent_damaged_and_received() {
     println!("1500 frames each way");
 }
 
-/// Frames one after the other into one record: newer, repeated, late and lost ones.
+/// Frames one after the other into one record: newer, repeated, late, older and lost ones.
 #[test]
 fn heard_in_turn() {
     let mut noise = Noise::new(53);
     let s = Setting { depth: 2, n: 9, r: 4, b: 1 };
-    let (mut record, mut judge) = (Record::fresh(), plain_record::Record::default());
-    let mut sequence = 65000u16;
+    let mut record = Record { last: 65000, ..Record::fresh() };
+    let mut judge = record::plain(record);
     for _ in 0..20_000 {
-        sequence = sequence.wrapping_add(noise.below(4) as u16).wrapping_sub((noise.below(8) == 0) as u16);
+        let sequence = record::walked(&mut noise, record.last);
         let mut slots = plain::slots_of(plain(s), &plain::area_of(plain(s), &noise.bytes(3), sequence));
         let mut marks = vec![0; 18];
         let beyond = (noise.below(5) == 0).then_some(1);
@@ -151,10 +151,11 @@ fn heard_in_turn() {
         let answer = heard(s, &mut record, &slots, &marks, &mut ours, &mut our_map);
         assert_eq!(answer, plain::receive(plain(s), &slots, &marks, &mut theirs, &mut their_map));
         judge.note(answer.as_ref().err().map_or(0, |refused| refused.0), answer.map_or(0, |frame| frame.sequence));
-        assert_eq!((record::plain(record), ours, our_map), (judge, theirs, their_map));
+        record::same(&record, &judge, || format!("{sequence}"));
+        assert_eq!((ours, our_map), (theirs, their_map));
     }
-    let least = judge.newer.min(judge.repeat).min(judge.older).min(judge.refused);
-    assert!(least > 500, "{judge:?}: the test does not try what it says");
+    let counts = [record.newer, record.repeat, record.older, record.refused, record.late];
+    assert!(counts.iter().min() > Some(&500), "{counts:?}: the test does not try what it says");
     println!("20000 frames");
 }
 

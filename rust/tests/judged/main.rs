@@ -10,6 +10,7 @@ mod frame;
 mod line;
 mod map;
 mod masts;
+mod memory;
 mod outside;
 mod record;
 mod refusals;

@@ -10,8 +10,8 @@ use yaxopetzo::masts::{Heard, Mast};
 use yaxopetzo::record::Record;
 
 use crate::copies::{amounts, area, compared, copy, gives, known, mended};
-use crate::frame;
 use crate::map::old;
+use crate::{frame, record};
 
 /// What the two copies suffer in turn: nothing, one of them, the same sum over other words, one more, whatever comes.
 fn suffered(noise: &mut Noise, s: Setting, round: usize) -> [Vec<usize>; 2] {
@@ -46,7 +46,8 @@ fn the_better_copy() {
         let second = if noise.below(2) == 0 { first.clone() } else { area(&mut noise, s, sequence) };
         let [one, other] = suffered(&mut noise, s, round);
         let masts = [copy(&mut noise, s, &first, &one), copy(&mut noise, s, &second, &other)];
-        let (answer, left) = compared(s, &mut Record::fresh(), &masts);
+        let last = sequence.wrapping_add(noise.between(0, 80) as u16).wrapping_sub(40);
+        let (answer, left) = compared(s, &mut record::lent(&mut noise, last), &masts);
         let sums = [one, other].map(|amounts| amounts.iter().sum::<usize>());
         let right = if sums[1] < sums[0] { gives(s, &answer, 2, &second) } else { gives(s, &answer, 1, &first) };
         assert!(right, "{s:?} {sums:?} {answer:?}");
@@ -78,7 +79,7 @@ fn two_frames() {
         }
         let [one, other] = suffered(&mut noise, s, round);
         let masts = [copy(&mut noise, s, &first, &one), copy(&mut noise, s, &second, &other)];
-        let before = Record { accepted: round % 3 > 0, last: sequence, ..Record::fresh() };
+        let before = record::lent(&mut noise, sequence);
         let mut record = before;
         let left = [mended(s, &masts[0], &first), mended(s, &masts[1], &second)];
         assert_eq!(compared(s, &mut record, &masts), (Err((8, 0)), left), "{s:?}");
@@ -101,7 +102,8 @@ fn refused_copies() {
             let area = area(&mut noise, s, sequence);
             let one = known(&mut noise, s, first, &area);
             let other = known(&mut noise, s, second, &area);
-            let mut record = Record { accepted: true, last: sequence, ..Record::fresh() };
+            let seen = record::memory(&mut noise);
+            let mut record = Record { accepted: true, last: sequence, seen, ..Record::fresh() };
             let (answer, left) = compared(s, &mut record, &[one.copy, other.copy]);
             let (right, counts) = match (first, second) {
                 (0, _) => (gives(s, &answer, 1, &area), (1, 0)),
@@ -110,6 +112,7 @@ fn refused_copies() {
             };
             assert!(right, "{s:?}: {first} and {second} gave {answer:?}");
             assert_eq!((record.repeat, record.refused), counts, "{s:?}: {first} and {second}");
+            assert_eq!(record.seen, seen, "{s:?}: {first} and {second}");
             assert_eq!(left, [one.left, other.left], "{s:?}: {first} and {second}");
         }
     }
@@ -133,7 +136,7 @@ fn around_the_limits() {
         for (first, second) in
             [(good, good), (long, bad), (bad, long), (good, both), (bad, good), (map, good), (bad, map)]
         {
-            let before = Record { accepted: true, last: 7, ..Record::fresh() };
+            let before = Record { accepted: true, last: 7, seen: 0x8000_0005, ..Record::fresh() };
             let mut record = before;
             let masts = [zeros(first), zeros(second)];
             let (answer, left) = compared(s, &mut record, &masts);
@@ -149,10 +152,9 @@ fn around_the_limits() {
 /// Pairs one after the other into one record; gives how often each mast was used and each number answered.
 fn in_turn(noise: &mut Noise, record: &mut Record, rounds: usize) -> ([usize; 2], [usize; 9]) {
     let s = Setting { depth: 2, n: 9, r: 4, b: 1 };
-    let mut sequence = 65000u16;
     let (mut used, mut numbers) = ([0; 2], [0; 9]);
     for _ in 0..rounds {
-        sequence = sequence.wrapping_add(noise.below(4) as u16).wrapping_sub((noise.below(8) == 0) as u16);
+        let sequence = record::walked(noise, record.last);
         let apart = (noise.below(6) == 0) as u16;
         let masts = [sequence, sequence.wrapping_add(apart)].map(|sequence| {
             let area = area(noise, s, sequence);
@@ -172,13 +174,13 @@ fn in_turn(noise: &mut Noise, record: &mut Record, rounds: usize) -> ([usize; 2]
     (used, numbers)
 }
 
-/// Newer, repeated, late, lost and differing frames, noted once each.
+/// Newer, repeated, late, older, lost and differing frames, noted once each.
 #[test]
 fn heard_in_turn() {
     let mut noise = Noise::new(83);
-    let mut record = Record::fresh();
+    let mut record = Record { last: 65000, ..Record::fresh() };
     let (used, numbers) = in_turn(&mut noise, &mut record, 10_000);
-    let counts = [record.newer, record.repeat, record.older, record.refused];
+    let counts = [record.newer, record.repeat, record.older, record.refused, record.late];
     assert_eq!(counts.iter().sum::<u32>() as usize, used[0] + used[1] + numbers[4] + numbers[5]);
     let least = [2, 3, 4, 5, 8].map(|number| numbers[number]).into_iter().chain(used).min();
     assert!(least > Some(200), "{used:?} {numbers:?}: the test does not try what it says");
@@ -190,10 +192,10 @@ fn heard_in_turn() {
 #[test]
 fn at_the_top() {
     let mut noise = Noise::new(84);
-    let top = u32::MAX;
-    let mut record = Record { newer: top - 9, repeat: top - 9, older: top - 9, refused: top, ..Record::fresh() };
+    let (top, near) = (u32::MAX, u32::MAX - 9);
+    let mut record = Record { newer: near, repeat: near, older: near, refused: top, late: near, ..Record::fresh() };
     let _ = in_turn(&mut noise, &mut record, 1000);
-    assert_eq!([record.newer, record.repeat, record.older, record.refused], [top; 4]);
+    assert_eq!([record.newer, record.repeat, record.older, record.refused, record.late], [top; 5]);
 }
 
 /// The bench reader's example: one buffer of slots serves both, and two marks weigh as much as one error.

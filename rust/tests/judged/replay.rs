@@ -56,7 +56,7 @@ fn compared(s: Setting, record: &mut Record, before: &Morning) -> (Answers, Morn
     let answers = replayed(s, record, &mut ours);
     assert_eq!(answers, plain::hear(&mut judge, frame::plain(s), &mut theirs), "{s:?}");
     assert_eq!(ours, theirs, "{s:?}");
-    assert_eq!(record::plain(*record), judge, "{s:?}");
+    record::same(record, &judge, || format!("{s:?}"));
     match &answers {
         Ok(answers) => {
             assert_eq!(*answers, one_by_one(s, &mut in_turn, &mut single), "{s:?}");
@@ -155,12 +155,14 @@ fn one_refused() {
     println!("{count} replays");
 }
 
-/// Numbers as frames come: mostly the next, some repeated, some late, over the top of 65535; a third of the frames refused.
-fn walked(noise: &mut Noise, sequence: &mut u16, frames: usize) -> Vec<(u8, u16)> {
+/// Numbers as frames come, newer, repeated, late and older, over the top of 65535; a third of the frames refused.
+fn walked(noise: &mut Noise, newest: &mut u16, frames: usize) -> Vec<(u8, u16)> {
     let step = |_| {
-        *sequence = sequence.wrapping_add(noise.below(4) as u16).wrapping_sub(4 * (noise.below(8) == 0) as u16);
+        let sequence = record::walked(noise, *newest);
+        // A refused frame leaves a gap behind too.
+        *newest = if sequence.wrapping_sub(*newest) < 32768 { sequence } else { *newest };
         let number = if noise.below(3) == 0 { noise.between(3, 5) as u8 } else { 0 };
-        (number, *sequence)
+        (number, sequence)
     };
     (0..frames).map(step).collect()
 }
@@ -175,9 +177,9 @@ fn any_frames() {
         let s = frame::setting(&mut noise);
         let most = (4000 / s.slots()).clamp(4, MOST);
         let frames = noise.between(0, most);
-        let mut sequence = noise.number() as u16;
-        let mut record = Record { accepted: noise.below(2) == 0, last: sequence, ..Record::fresh() };
-        let numbers = walked(&mut noise, &mut sequence, frames);
+        let mut newest = noise.number() as u16;
+        let mut record = record::lent(&mut noise, newest);
+        let numbers = walked(&mut noise, &mut newest, frames);
         known_beforehand(&mut noise, s, &mut record, &numbers, round);
         count += frames;
     }
@@ -186,22 +188,22 @@ fn any_frames() {
 
 /// Replays one after the other into one record.
 fn in_turn(noise: &mut Noise, record: &mut Record, rounds: usize) {
-    let mut sequence = 65000;
+    let mut newest = 65000;
     for round in 0..rounds {
         let frames = noise.between(0, MOST);
-        let numbers = walked(noise, &mut sequence, frames);
+        let numbers = walked(noise, &mut newest, frames);
         known_beforehand(noise, Setting { depth: 2, n: 9, r: 4, b: 1 }, record, &numbers, round);
     }
 }
 
-/// Newer, repeated, late and lost frames, noted in their order. It would catch a record that is noted from the last frame to
-/// the first, from each frame anew, once for them all, or for a frame that was refused 3.
+/// Newer, repeated, late, older and lost frames, noted in their order. It would catch a record that is noted from the last
+/// frame to the first, from each frame anew, once for them all, or for a frame that was refused 3.
 #[test]
 fn one_record() {
     let mut noise = Noise::new(113);
     let mut record = Record::fresh();
     in_turn(&mut noise, &mut record, 200);
-    let counts = [record.newer, record.repeat, record.older, record.refused];
+    let counts = [record.newer, record.repeat, record.older, record.refused, record.late];
     assert!(counts.iter().min() > Some(&200), "{counts:?}: the test does not try what it says");
     println!("200 replays {counts:?}");
 }
@@ -213,13 +215,13 @@ fn at_the_top() {
     let mut noise = Noise::new(114);
     for below in 0..20 {
         let top = u32::MAX - below;
-        let mut record = Record { newer: top, repeat: top, older: top, refused: top, ..Record::fresh() };
+        let mut record = Record { newer: top, repeat: top, older: top, refused: top, late: top, ..Record::fresh() };
         in_turn(&mut noise, &mut record, 2);
     }
-    let top = u32::MAX;
-    let mut record = Record { newer: top - 9, repeat: top - 9, older: top - 9, refused: top, ..Record::fresh() };
+    let (top, near) = (u32::MAX, u32::MAX - 9);
+    let mut record = Record { newer: near, repeat: near, older: near, refused: top, late: near, ..Record::fresh() };
     in_turn(&mut noise, &mut record, 20);
-    assert_eq!([record.newer, record.repeat, record.older, record.refused], [top; 4]);
+    assert_eq!([record.newer, record.repeat, record.older, record.refused, record.late], [top; 5]);
 }
 
 /// Buffers of these lengths; the slots are those of frames without a payload, and every mark is the one that is named.
@@ -271,7 +273,7 @@ fn around_the_limits() {
         let (slots, area) = (s.depth.min(20) * s.n, s.depth.min(20) * s.n.saturating_sub(s.r));
         for (frames, more, mark) in [(0, 0, 0), (1, 0, 0), (2, 0, 1), (2, 0, 2), (0, 1, 0), (2, 1, 2)] {
             let before = lent(frames * slots + more, frames * slots, frames * area, frames * slots, frames, mark);
-            let mut record = Record { accepted: true, last: 7, ..Record::fresh() };
+            let mut record = Record { accepted: true, last: 7, seen: 0x8000_0005, ..Record::fresh() };
             let (answers, _) = compared(s, &mut record, &before);
             if !s.is_allowed() {
                 assert_eq!(answers, Err(1), "{s:?}");
