@@ -16,8 +16,8 @@ seenAt memory d = eqb (memory / 2 ^ (d - 1) % 2) 1
 unfoldable pub seeing : ℕ → ℕ → ℕ
 seeing memory d = bitOr memory (2 ^ (d - 1))
 
--- once the last has moved on by `step`: first by one, which the old last is then below it, and by the rest, which nothing is; what comes to
--- lie beyond the 32 is forgotten
+-- once the last has moved on by `step`: the old last comes to stand at distance 1, and it and those below it move by the rest of the step;
+-- what comes to lie beyond the 32 is forgotten
 unfoldable pub slid : ℕ → ℕ → ℕ
 slid memory step = ((2 * memory + 1) * 2 ^ (step - 1)) % 2 ^ 32
 

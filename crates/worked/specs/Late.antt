@@ -4,11 +4,10 @@ use mathlib.Core.Path.{_≡_, refl}
 use mathlib.Core.Bool.{true}
 use mathlib.Core.List.{List, [], _∷_, map}
 use Prim.Native.Nat.{ℕ}
-use lib.Bits.{bitOr}
 use Rattle.record.specs.Memory.{seenAt, seeing, slid}
 use Rattle.record.specs.Order.{compared}
 use Rattle.record.specs.Record.{freshRecord, memoryAfter, standing, noted}
-use Rattle.record.specs.Record.History.{Heard, after}
+use Rattle.record.specs.Record.History.{after}
 use Rattle.record.specs.declared.Record.{Record}
 
 abbrev pub afterAll : List ℕ → Record

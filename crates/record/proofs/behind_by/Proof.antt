@@ -1,7 +1,6 @@
 -- `behind_by` meets its contract: the three ways out are the three cases of `behindBy`.
 -- Assumes nothing.
 use mathlib.Core.Path.{sym, _∙_}
-use native.Mathlib.Omega.{arith}
 use Rattle.record.specs.Record.Laws.{behind-far, behind-seen, behind-unseen}
 use Rattle.record.proofs.behind_by.Statement.{statement}
 use Rattle.record.proofs.behind_by.Tie as tie

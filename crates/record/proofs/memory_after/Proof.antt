@@ -1,6 +1,6 @@
 -- `memory_after` meets its contract: where a frame was accepted, a newer one is at least a step ahead of the last.
 -- Assumes nothing.
-use mathlib.Core.Path.{sym, ap, _∙_}
+use mathlib.Core.Path.{ap, _∙_}
 use borrow.Author.Needs.{needs}
 use Rattle.record.specs.Memory.{slid}
 use Rattle.record.specs.Record.Laws.{newer-leads, memory-again, memory-first}

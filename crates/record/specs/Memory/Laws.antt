@@ -1,7 +1,7 @@
 -- What the memory holds, entry by entry: after a number is seen, and after the last has moved on; and what the code makes of its digits.
 -- Assumes nothing.
 use mathlib.Core.Path.{_≡_, refl, sym, ap, ap₂, _∙_}
-use mathlib.Core.Bool.{Bool, true, false, not}
+use mathlib.Core.Bool.{true, false, not}
 use mathlib.Core.Logic.{_≢_}
 use Prim.Native.Nat.{ℕ, zero, suc, _+_, _-_, _*_, _/_, _%_, _^_, _≤_, _<_, max}
 use native.Mathlib.Nat.{mod-lt, zero-div, mul-mod-left, mul-assoc, one-mul, mod-add-div', add-mul, mul-right-comm, add-mul-mod-self-right}
@@ -13,7 +13,7 @@ use lib.Bits.{bitOr, or-shr, or-step, or-shifted, shifted-even}
 use lib.Count.{ones, ones-step}
 use lib.Dec.{eqb}
 use lib.Pow.{pow-add, shr-lt, shl-exact, shl-shr, shr-shr, field, mod-pow-add, mod-mod-pow}
-use borrow.Author.Tests.{eq-eqb, ne-eqb}
+use borrow.Author.Tests.{ne-eqb}
 use Rattle.algebra.specs.Tests.{oneIf, total, total-first, total-same}
 use Rattle.record.specs.Memory.{seenAt, seeing, slid, unseenIn}
 

@@ -2,7 +2,7 @@
 -- accepted, where top is the newest frame. So a late copy is told from a second one.
 -- Assumes nothing.
 use mathlib.Core.Path.{_≡_, refl, sym, ap, _∙_, subst}
-use mathlib.Core.Bool.{Bool, true, false, _&&_, _||_}
+use mathlib.Core.Bool.{Bool, true, false, _&&_, _||_, or-true, or-false, or-assoc}
 use mathlib.Core.List.{List, [], _∷_, map}
 use mathlib.Core.Logic.{_≢_}
 use Prim.Native.Nat.{ℕ, _+_, _-_, _%_, _≤_, _<_, max}
@@ -13,13 +13,13 @@ use borrow.Author.Tests.{eq-eqb, ne-eqb, lt-ltb, le-ltb, le-leb, lt-leb}
 use Rattle.algebra.specs.Tests.{if_then_else_}
 use Rattle.record.specs.Memory.{seenAt, seeing, slid}
 use Rattle.record.specs.Memory.Laws.{none-seen, seeing-there, seeing-elsewhere, slid-near, slid-last, slid-far}
-use Rattle.record.specs.Order.{lead, lag}
-use Rattle.record.specs.Order.Laws.{trueOrder, by-order, lead-true, lag-true}
-use Rattle.record.specs.Record.{memoryAfter, countedAs, lostAfter, behindBy, kindOf, standing, noted}
+use Rattle.record.specs.Order.{lag}
+use Rattle.record.specs.Order.Laws.{by-order, lead-true, lag-true}
+use Rattle.record.specs.Record.{memoryAfter, countedAs, lostAfter, behindBy, kindOf, noted}
 use Rattle.record.specs.Record.Laws.{by-memory, memory-again, memory-first, standing-first, noted-accepted}
 use Rattle.record.specs.Record.History.{Heard, after, isAccepted, carried, higher, highest, Paced, Stands, stands-step, stands-first, trueKind, judged, late-copy}
 use Rattle.record.specs.declared.Record.{Record}
-use Rattle.record.specs.declared.Kind.the-variants.{Newer, Repeat, Older, Late}
+use Rattle.record.specs.declared.Kind.the-variants.{Repeat, Older, Late}
 
 -- whether frame t is among the accepted ones
 unfoldable pub accepts : List Heard → ℕ → Bool
@@ -37,14 +37,6 @@ pub record Recalls (memory top : ℕ) (past : ℕ → Bool) : Type 0 where
   pub entries : (d : ℕ) → 1 ≤ d → d ≤ 32 → seenAt memory d ≡ acceptedBelow past top d
 
 -- ---- one more frame
-
-or-false : (b : Bool) → (b || false) ≡ b
-or-false true = refl
-or-false false = refl
-
-or-true : (b : Bool) → (b || true) ≡ true
-or-true true = refl
-or-true false = refl
 
 -- those of `past`, and frame t
 abbrev with : (ℕ → Bool) → ℕ → ℕ → Bool
@@ -165,10 +157,6 @@ recalls-same {top = top} e m = record {
   none-above = λ t l. sym (e t) ∙ m .none-above t l;
   entries = λ d a b. m .entries d a b ∙ ap (λ (x : Bool). leb d top && x) (e (top - d));
 }
-
-or-assoc : (a b c : Bool) → ((a || b) || c) ≡ (a || (b || c))
-or-assoc true b c = refl
-or-assoc false b c = refl
 
 -- those of `past`, and the accepted ones of the list
 abbrev pub withAll : (ℕ → Bool) → List Heard → ℕ → Bool

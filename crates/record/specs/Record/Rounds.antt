@@ -4,20 +4,20 @@
 -- than 32 below it stays beyond the memory's reach, and one within reach was accepted, if at all, since it came there.
 -- Assumes nothing.
 use mathlib.Core.Path.{_≡_, refl, sym, ap, ap₂, _∙_}
-use mathlib.Core.Bool.{Bool, true, false, not, false≢true, _&&_, _||_}
+use mathlib.Core.Bool.{Bool, true, false, not, false≢true, _||_}
 use mathlib.Core.List.{List, [], _∷_, map}
 use mathlib.Core.Logic.{_≢_}
 use Prim.Native.Nat.{ℕ, _+_, _-_, _%_, _≤_, _<_, max}
 use native.Mathlib.Decide.{ℕ-discrete}
 use native.Mathlib.Omega.{arith}
-use lib.Dec.{eqb, leb}
+use lib.Dec.{eqb}
 use borrow.Author.Tests.{eq-eqb, ne-eqb, le-leb}
 use Rattle.algebra.specs.Tests.{if_then_else_, oneIf, total, total-same}
 use Rattle.record.specs.Memory.{seenAt, unseenIn}
 use Rattle.record.specs.Memory.Laws.{none-seen}
 use Rattle.record.specs.Order.{lead}
 use Rattle.record.specs.Record.{freshRecord, noted}
-use Rattle.record.specs.Record.History.{Heard, after, isAccepted, carried, higher, highest, Paced, Stands, newest-from-first}
+use Rattle.record.specs.Record.History.{Heard, after, isAccepted, carried, higher, highest, Paced, newest-from-first}
 use Rattle.record.specs.Record.Recall.{accepts, remembered, refused-keeps}
 use Rattle.record.specs.declared.Record.{Record}
 

@@ -1,7 +1,5 @@
 -- `memory::see` meets its contract: the shift loses no digit, since the distance is within the 32.
 -- Assumes nothing.
-use mathlib.Core.Path.{ap}
-use native.Mathlib.Omega.{arith}
 use borrow.Author.Needs.{needs}
 use Rattle.record.specs.Memory.Laws.{seen-by}
 use Rattle.record.proofs.memory.see.Statement.{statement}
