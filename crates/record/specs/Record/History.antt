@@ -13,7 +13,7 @@ use Rattle.algebra.specs.Tests.{if_then_else_, oneIf}
 use Rattle.record.specs.Order.{lag}
 use Rattle.record.specs.Order.Laws.{trueOrder, by-order, compared-true, lag-true}
 use Rattle.record.specs.Record.{countedAs, lostAfter, behindBy, kindOf, standing, noted}
-use Rattle.record.specs.Record.Laws.{by-memory, standing-again, standing-first, noted-accepted}
+use Rattle.record.specs.Record.Laws.{by-memory, behind-stays, standing-again, standing-first, noted-accepted}
 use Rattle.record.specs.declared.order.Order.the-variants.{Behind}
 use Rattle.record.specs.declared.Record.{Record}
 use Rattle.record.specs.declared.Kind.{Kind}
@@ -176,14 +176,18 @@ pub newest-from-first : (h : Record) (first : ℕ) (heard : List Heard) → h .a
     → Stands (after (noted h 0 (first % 65536)) (map carried heard)) (highest first heard)
 newest-from-first h first heard n paced = newest (noted h 0 (first % 65536)) first heard (stands-first h first n) paced
 
--- a late copy is behind, and so is late, repeat or older by the memory: whatever came in between, a frame that at most 32768 numbers have
--- overtaken is never again the newest
-pub late-copy : (h : Record) (top : ℕ) (heard : List Heard) (t : ℕ) → Stands h top → Paced top heard
-    → t < highest top heard → highest top heard ≤ t + 32768
-    → noted (after h (map carried heard)) 0 (t % 65536)
-    ≡ countedAs (after h (map carried heard)) (t % 65536) (behindBy (after h (map carried heard) .seen) (highest top heard - t))
-late-copy h top heard t s paced l few =
-    let r : Record = after h (map carried heard) in
-    let behind : trueOrder t (highest top heard) ≡ Behind = by-order (λ o. o ≡ Behind) t (highest top heard) (λ e. absurd (omega arith)) (λ m. absurd (omega arith)) (λ m. refl) in
-    sym (noted-accepted r 0 (t % 65536) refl)
-    ∙ ap (countedAs r (t % 65536)) (judged r (highest top heard) t (newest h top heard s paced) (omega arith) few ∙ ap (kindOf (r .seen) (highest top heard - t)) behind)
+-- a frame that at most 32768 numbers have overtaken, whatever came in between
+module _ (h : Record) (top : ℕ) (heard : List Heard) (t : ℕ) (s : Stands h top) (paced : Paced top heard) (l : t < highest top heard) (few : highest top heard ≤ t + 32768) where
+  abbrev r : Record
+  r = after h (map carried heard)
+
+  -- it is behind, and so is late, repeat or older by the memory
+  pub late-copy : noted r 0 (t % 65536) ≡ countedAs r (t % 65536) (behindBy (r .seen) (highest top heard - t))
+  late-copy =
+      let behind : trueOrder t (highest top heard) ≡ Behind = by-order (λ o. o ≡ Behind) t (highest top heard) (λ e. absurd (omega arith)) (λ m. absurd (omega arith)) (λ m. refl) in
+      sym (noted-accepted r 0 (t % 65536) refl)
+      ∙ ap (countedAs r (t % 65536)) (judged r (highest top heard) t (newest h top heard s paced) (omega arith) few ∙ ap (kindOf (r .seen) (highest top heard - t)) behind)
+
+  -- and it is never again the newest
+  pub never-newest : (noted r 0 (t % 65536) .last ≡ r .last) × (noted r 0 (t % 65536) .newer ≡ r .newer)
+  never-newest = rw late-copy (behind-stays r (t % 65536) (r .seen) (highest top heard - t))

@@ -41,6 +41,12 @@ module _ (memory d : ℕ) where
       by-entry l true e = seen l e
       by-entry l false e = unseen l e
 
+-- none of the three moves the last number, nor is counted as newer
+pub behind-stays : (h : Record) (new memory d : ℕ)
+    → (countedAs h new (behindBy memory d) .last ≡ h .last) × (countedAs h new (behindBy memory d) .newer ≡ h .newer)
+behind-stays h new memory d =
+    by-memory memory d (λ k. (countedAs h new k .last ≡ h .last) × (countedAs h new k .newer ≡ h .newer)) (λ far. (refl, refl)) (λ near e. (refl, refl)) (λ near e. (refl, refl))
+
 module _ (h : Record) (new : ℕ) where
   pub standing-again : h .accepted ≡ true → kindOf (h .seen) (lag new (h .last)) (compared new (h .last)) ≡ standing h new
   unfolding standing
