@@ -14,7 +14,7 @@ abbrev pub afterAll : List ℕ → Record
 afterAll numbers = after freshRecord (map (λ (x : ℕ). record { number = 0; sequence = x }) numbers)
 
 pub record LateTable : Type 0 where
-  -- 12 is late the first time and repeat the second, and so is 10: of the 32 below 13, those at distances 1 and 3 are seen
+  -- 12 is late the first time and repeat the second; 10, which was newer, is repeat too. Of the 32 below 13 those at distances 1 and 3 are seen
   pub late-then-repeat : afterAll (10 ∷ 13 ∷ 12 ∷ 12 ∷ 10 ∷ [])
       ≡ record { accepted = true; last = 13; newer = 2; repeat = 2; older = 0; refused = 0; late = 1; seen = 5 }
   -- 32 behind is late, across 65535 too, and 33 behind is older
