@@ -2,7 +2,7 @@
 -- Assumes nothing.
 use Rattle.std.specs.Prelude.{◌≡◌, List, [], ◌∷◌, ◌⊎◌, ◌≢◌, ℕ, zero, suc, ◌+◌, ◌*◌, ◌≤◌, ◌<◌}
 use Rattle.std.proofs.Common.{sym, inl, inr, ⊎_elim, mul-suc, mul-zero, arith}
-use Rattle.std.proofs.Math.Logic.{Dec·and}
+use Rattle.std.proofs.Math.Logic.Dec
 use Rattle.std.proofs.Math.Decide.{ℕ_discrete, dec_lt, dec_le}
 use Rattle.algebra.specs.Sets.{count, count_or, count_mono, count_pos, count_once, count_none, either}
 
@@ -11,7 +11,7 @@ abbrev pub In : ℕ → ℕ → ℕ → Type 0
 In a k s = (a ≤ s) × (s < a + k)
 
 in? : (a k s : ℕ) → Dec (In a k s)
-in? a k s = Dec·and (dec_le a s) (dec_lt s (a + k))
+in? a k s = Dec.and (dec_le a s) (dec_lt s (a + k))
 
 -- slot s is in one of the runs, each a first slot and a length
 abbrev pub Hit : List (ℕ × ℕ) → ℕ → Type 0

@@ -2,7 +2,7 @@
 -- Assumes nothing.
 use Rattle.std.specs.Prelude.{◌≡◌, refl, List, ℕ, zero, suc, ◌+◌, ◌*◌, ◌/◌, ◌%◌, ◌≤◌, ◌<◌, length, get_or}
 use Rattle.std.proofs.Common.{sym, ap, ◌∙◌, not-suc-le-zero, mul-le-mul_right, suc-mul, mul-zero, add-zero, mod-eq_of_lt, mod-lt, div-lt_iff_lt-mul, div-add-mod', arith, ext_get_or}
-use Rattle.std.proofs.Math.Logic.{Dec·and}
+use Rattle.std.proofs.Math.Logic.Dec
 use Rattle.std.proofs.Math.Nat.{mul-add-mod_self_right, mul-add-div_right, div-eq_of_lt}
 use Rattle.std.proofs.Math.Decide.{ℕ_discrete, dec_le}
 use Rattle.algebra.specs.Lists.{tabulate, length_tabulate, get_or_tabulate}
@@ -25,7 +25,7 @@ pub record BlockSetting (J n : ℕ) : Type 0 where
   pub size : (3 ≤ n) × (n ≤ 255)
 
 pub block_setting? : (J n : ℕ) → Dec (BlockSetting J n)
-block_setting? J n = elim (Dec·and (Dec·and (dec_le 1 J) (dec_le J 16)) (Dec·and (dec_le 3 n) (dec_le n 255))) [
+block_setting? J n = elim (Dec.and (Dec.and (dec_le 1 J) (dec_le J 16)) (Dec.and (dec_le 3 n) (dec_le n 255))) [
   | yes p ↦ yes record { depth = p.0; size = p.1 }
   | no p ↦ no λ s. p (s.depth, s.size)
 ]

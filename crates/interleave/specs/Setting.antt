@@ -2,7 +2,7 @@
 -- Assumes nothing.
 use Rattle.std.specs.Prelude.{◌≡◌, refl, Bool, List, ℕ, ◌-◌, ◌*◌, ◌/◌, ◌%◌, ◌≤◌, ◌<◌, T, length}
 use Rattle.std.proofs.Common.{sym, ◌∙◌, arith}
-use Rattle.std.proofs.Math.Logic.{Dec·and}
+use Rattle.std.proofs.Math.Logic.Dec
 use Rattle.std.proofs.Math.Decide.{ℕ_discrete, dec_le, dec_lt, map_dec}
 use Rattle.algebra.specs.Tests.{below}
 use Rattle.algebra.specs.Refusal.{need, need_yes, need_zero, first, first_none, first_zero, passes}
@@ -22,8 +22,8 @@ pub record Setting (I M n : ℕ) : Type 0 where
 setting? : (I M n : ℕ) → Dec (Setting I M n)
 setting? I M n =
     map_dec (λ p. record { branches = p.0; unit = p.1.0; size = p.1.1.0; whole = p.1.1.1.0; room = p.1.1.1.1 }) (λ s. (s.branches, (s.unit, (s.size, (s.whole, s.room)))))
-    (Dec·and (Dec·and (dec_le 2 I) (dec_le I 16))
-    (Dec·and (Dec·and (dec_le 1 M) (dec_le M 128)) (Dec·and (Dec·and (dec_le 3 n) (dec_le n 255)) (Dec·and (ℕ_discrete (n % I) 0) (dec_le n (M * I))))))
+    (Dec.and (Dec.and (dec_le 2 I) (dec_le I 16))
+    (Dec.and (Dec.and (dec_le 1 M) (dec_le M 128)) (Dec.and (Dec.and (dec_le 3 n) (dec_le n 255)) (Dec.and (ℕ_discrete (n % I) 0) (dec_le n (M * I))))))
 
 -- the bytes of a line's memory
 abbrev pub memory_size : ℕ → ℕ → ℕ
@@ -37,7 +37,7 @@ pub record Allowed (l : Line) : Type 0 where
 pub allowed? : (l : Line) → Dec (Allowed l)
 allowed? l =
     map_dec (λ p. record { setting = p.0; position = p.1 }) (λ a. (a.setting, a.position))
-    (Dec·and (setting? l.branches l.unit l.n) (dec_lt l.position (period l.branches l.unit)))
+    (Dec.and (setting? l.branches l.unit l.n) (dec_lt l.position (period l.branches l.unit)))
 
 -- a line of this setting at a position, and a line moved to another
 abbrev pub line_at : ℕ → ℕ → ℕ → ℕ → Line
