@@ -1,6 +1,8 @@
 // The word code: document 01, section Word code. A word of n symbols is encoded from its k message symbols, and a received one is
 // corrected in place, or its message handed to a part of an area, or only asked whether it is a codeword. Every call checks its own input, in the paper's order. What each promises is
 // defined in specs/, in the paper's order.
+#![tactic(auto)]
+
 pub mod clean;
 pub mod correct;
 pub mod count;

@@ -1,5 +1,4 @@
 -- `field::shifts::sixteenth` meets its contract: four squares, tested at every byte.
--- Assumes nothing.
 use mathlib.Core.Path.{◌≡◌, sym, ap, ◌∙◌}
 use mathlib.Core.Bool.{Bool}
 use Prim.Native.Nat.{ℕ, ◌+◌, ◌*◌, ◌/◌, ◌%◌, ◌<◌}
@@ -10,8 +9,7 @@ use Rattle.algebra.specs.Tests.{each, each_at}
 use Rattle.field.specs.Field.{times, reduce, product, modulus, mul}
 use Rattle.field.specs.Raised.{raised, raised_one, raised_add}
 use Rattle.field.specs.Gf8.{rules8}
-use Rattle.field.proofs.shifts.sixteenth.Statement.{statement}
-use Rattle.field.proofs.shifts.sixteenth.Tie as tie
+use Rattle.field.proofs.shifts.sixteenth.Goals as goal
 
 code : ℕ → ℕ
 code x = x % 2 ⊕ x / 2 % 2 * 76 ⊕ x / 4 % 2 * 157 ⊕ x / 8 % 2 * 70 ⊕ x / 16 % 2 * 95 ⊕ x / 32 % 2 * 253 ⊕ x / 64 % 2 * 217 ⊕ x / 128 * 129
@@ -41,40 +39,6 @@ module _ (x : ℕ) (byte : x < 256) where
       ap (λ (y : ℕ). square (square (square (square y)))) (sym (raised_one 8 (modulus 8) degree room x byte))
       ∙ ap (λ (y : ℕ). square (square (square y))) (squared 1) ∙ ap (λ (y : ℕ). square (square y)) (squared 2) ∙ ap square (squared 4) ∙ squared 8
 
-mul-result : tie.Need-overflow-mul-result
-mul-result c = search rules
-
-mul-result-2 : tie.Need-overflow-mul-result-2
-mul-result-2 c = search rules
-
-mul-result-3 : tie.Need-overflow-mul-result-3
-mul-result-3 c = search rules
-
-mul-result-4 : tie.Need-overflow-mul-result-4
-mul-result-4 c = search rules
-
-mul-result-5 : tie.Need-overflow-mul-result-5
-mul-result-5 c = search rules
-
-mul-result-6 : tie.Need-overflow-mul-result-6
-mul-result-6 c = search rules
-
-mul-result-7 : tie.Need-overflow-mul-result-7
-mul-result-7 c = search rules
-
-returns : tie.Need-returns
+pub returns : goal.returns
 unfolding right code ◌⊕◌
 returns c = eqb→eq _ _ (each_at 256 right rule c.args.x (search rules)) ∙ four-squares _ (search rules)
-
-pub sixteenth-spec : {M : Type 1} → statement M
-sixteenth-spec =
-    tie.close
-    (tie.spec
-    mul-result
-    mul-result-2
-    mul-result-3
-    mul-result-4
-    mul-result-5
-    mul-result-6
-    mul-result-7
-    returns)
