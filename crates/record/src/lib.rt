@@ -17,7 +17,7 @@ use order::{Order, compare, lag_of, lead_of};
 
 // A caller makes it by `fresh` and hands it to every call that receives. The C face lends it, so its fields keep their order.
 #[repr(C)]
-#[derive(Drop)]
+#[derive(Clone, Copy)]
 pub struct Record {
     pub accepted: bool,
     pub last: u16,
@@ -30,7 +30,7 @@ pub struct Record {
 }
 
 // How a sequence number stands to what the record has accepted.
-#[derive(Drop)]
+#[derive(Clone, Copy)]
 pub enum Kind {
     Newer,
     Repeat,

@@ -9,12 +9,9 @@ use native.Mathlib.Omega.{arith}
 use lib.Dec.{T, ltb, ltb→lt}
 use lib.ListN.{length}
 use Rattle.algebra.specs.Tests.{at, below, and_left, passed, below_at, below_all}
+use Rattle.buffers.proofs.all_below.Invariants.{Largest}
 use Rattle.buffers.proofs.all_below.Goals as goal
-
-record Largest (q : ℕ) (s : List ℕ) (i most : ℕ) : Type 0 where
-  bound : i ≤ length s
-  before : (j : ℕ) → j < i → at s j ≤ most
-  fits : T (below q s) → most < q
+use Rattle.buffers.proofs.all_below.Goals.{then-s-i, else-s-i}
 
 larger : (q : ℕ) (s : List ℕ) (i most x : ℕ) → i < length s → at s i ≤ x → most ≤ x → (T (below q s) → x < q) → Largest q s i most → Largest q s (i + 1) x
 larger q s i most x l h g f p = record {
@@ -51,11 +48,11 @@ loop-i-preserved c =
     let s = c.args.s.now in
     let q = c.args.q in
     let l = c.loop-i-test.true in
-    ⊎_elim
-    (λ w. rw w.2 (larger q s c.loop-i.i c.loop-i.most _ l (omega arith) (omega (arith, w.0.taken))
-    (λ t. below_at q s t c.loop-i.i (some_below q s (omega arith) t)) c.loop-i.invariant))
-    (λ w. rw w.1 (larger q s c.loop-i.i c.loop-i.most _ l w.0.left (omega arith) c.loop-i.invariant.fits c.loop-i.invariant))
-    c.if-s-i.branch
+    elim c.if-s-i.branch [
+      | then-s-i w ↦ rw w.most-is (larger q s c.loop-i.i c.loop-i.most _ l (omega arith) (omega (arith, w.if-s-i.true))
+          (λ t. below_at q s t c.loop-i.i (some_below q s (omega arith) t)) c.loop-i.invariant)
+      | else-s-i w ↦ rw w.most-is (larger q s c.loop-i.i c.loop-i.most _ l w.if-s-i.false (omega arith) c.loop-i.invariant.fits c.loop-i.invariant)
+    ]
 
 pub returns-then-q-widen : goal.returns-then-q-widen
 returns-then-q-widen c = not-all _ λ t. omega (arith, c.widen.ensures, c.loop-i.invariant.fits t)
