@@ -12,7 +12,7 @@ ghost use Rattle.field.specs.Elements.{wide};
 ghost use Rattle.algebra.specs.Xor.{◌⊕◌};
 
 // What a call answers: an element, or why there is none. Its numbers are document 01's 0, 1 and 3.
-#[derive(Drop)]
+#[derive(Clone, Copy)]
 pub enum Element {
     Is(u8),
     BadField,
