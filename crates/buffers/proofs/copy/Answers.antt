@@ -1,6 +1,5 @@
 -- `copy` meets its contract. The loop's invariant: the first i bytes of the target are those of the source.
 use mathlib.Core.Path.{refl}
-use Prim.Native.Nat.{◌-◌}
 use native.Mathlib.Omega.{arith}
 use Rattle.algebra.specs.Lists.{filled_none, filled_more, filled_front}
 use Rattle.buffers.proofs.copy.Goals as goal

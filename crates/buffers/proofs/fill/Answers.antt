@@ -1,6 +1,6 @@
 -- `fill` meets its contract. The invariant: the first i bytes are the value. At the end these are all.
 use mathlib.Core.Path.{◌≡◌, refl, ap, ◌∙◌}
-use Prim.Native.Nat.{ℕ, ◌-◌}
+use Prim.Native.Nat.{ℕ}
 use native.Mathlib.Omega.{arith}
 use lib.ListN.{replicate}
 use mathlib.Core.List.{List, ◌∷◌}

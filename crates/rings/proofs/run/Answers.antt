@@ -1,7 +1,7 @@
 -- `run` meets its contract. The invariant: the first i branches of the run have taken all their steps, and `branch` and q are those of the next
 -- (proofs/Branches.antt).
 use mathlib.Core.Path.{refl, ◌∙◌}
-use Prim.Native.Nat.{◌+◌, ◌-◌, ◌<◌}
+use Prim.Native.Nat.{◌+◌, ◌<◌}
 use native.Mathlib.Omega.{arith}
 use native.Mathlib.Nat.{mod-lt}
 use Rattle.rings.specs.Rings.{order_small}

@@ -1,7 +1,7 @@
 -- `walk` meets its contract. The invariant: byte i is the next of the branch, `cell` is the cell of its turn, and the steps of the branch below i
 -- are taken (proofs/Walking.antt).
 use mathlib.Core.Path.{◌∙◌}
-use Prim.Native.Nat.{◌+◌, ◌-◌, ◌/◌}
+use Prim.Native.Nat.{◌+◌, ◌/◌}
 use native.Mathlib.Omega.{arith}
 use native.Mathlib.Nat.{mod-lt}
 use Rattle.rings.specs.Rings.{pos_mul}

@@ -1,6 +1,5 @@
 -- `put` meets its contract. The loop's invariant: the first i bytes of the piece are written.
 use native.Mathlib.Omega.{arith}
-use Prim.Native.Nat.{◌-◌}
 use Rattle.text.specs.Put.{put_size, copy_none, copy_more, copy_all}
 use Rattle.text.proofs.put.Goals as goal
 

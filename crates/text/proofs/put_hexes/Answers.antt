@@ -1,8 +1,6 @@
 -- `put_hexes` meets its contract. The loop's invariant: the first i bytes are written, two digits for each.
 use native.Mathlib.Omega.{arith}
-use Prim.Native.Nat.{◌-◌}
 use Rattle.text.specs.Put.{put_size}
-use Rattle.text.specs.Text.{hexes}
 use Rattle.text.specs.Pieces.{hexes_begun, hexes_room, hexes_on, hexes_done}
 use Rattle.text.specs.Text.Hex.{hexes_size}
 use Rattle.text.proofs.put_hexes.Goals as goal

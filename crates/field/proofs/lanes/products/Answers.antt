@@ -1,6 +1,5 @@
 -- `field::lanes::products` meets its contract. The loop's invariant: the first i entries are the products. Either branch gives the product
 -- of the field that m names, since a product depends on m by its width alone.
-use Prim.Native.Nat.{◌-◌}
 use native.Mathlib.Omega.{arith}
 use borrow.Author.Rules.{rules}
 use Rattle.algebra.specs.Lists.{filled_none}

@@ -1,6 +1,5 @@
 -- `move_four_rows` meets its contract. The invariant: the rows before `row` are in their columns, and so are the bytes below i of the next four.
 use mathlib.Core.Path.{sym, ◌∙◌}
-use Prim.Native.Nat.{◌-◌}
 use native.Mathlib.Omega.{arith}
 use lib.ListN.{length-set}
 use Rattle.interleave.proofs.Rows.{room, moving_none, moving_four, moving_all}

@@ -1,6 +1,5 @@
 -- `move_row` meets its contract. The invariant: the rows before `row` are in their columns, and so are the bytes below i of this one.
 use mathlib.Core.Path.{sym, ◌∙◌}
-use Prim.Native.Nat.{◌-◌}
 use native.Mathlib.Omega.{arith}
 use Rattle.interleave.proofs.Rows.{room, moving_none, moving_one, moving_all}
 use Rattle.interleave.proofs.block.move_row.Goals as goal

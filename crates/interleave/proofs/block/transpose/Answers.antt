@@ -1,6 +1,5 @@
 -- `transpose` meets its contract. The invariant: the rows before `row` are in their columns.
 use mathlib.Core.Path.{sym, ◌∙◌}
-use Prim.Native.Nat.{◌-◌}
 use native.Mathlib.Omega.{arith}
 use Rattle.interleave.proofs.Rows.{rows_none, rows_all}
 use Rattle.interleave.proofs.block.transpose.Goals as goal

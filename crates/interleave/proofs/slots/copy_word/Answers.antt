@@ -1,6 +1,6 @@
 -- `slots::copy_word` meets its contract. The loop's invariant: the first i bytes of the word are those of its slots.
 use mathlib.Core.Path.{refl}
-use Prim.Native.Nat.{◌+◌, ◌-◌, ◌*◌, ◌<◌}
+use Prim.Native.Nat.{◌+◌, ◌*◌, ◌<◌}
 use native.Mathlib.Omega.{arith}
 use lib.ListN.{get_or}
 use Rattle.algebra.specs.Lists.{copying_none, copying_more, copying_all}

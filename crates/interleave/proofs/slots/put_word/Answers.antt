@@ -1,6 +1,5 @@
 -- `slots::put_word` meets its contract. The loop's invariant: the first i bytes are in the word's slots, and the other words' slots are as they were.
 use mathlib.Core.Path.{◌≡◌, ◌∙◌}
-use Prim.Native.Nat.{◌-◌}
 use native.Mathlib.Omega.{arith}
 use lib.ListN.{length}
 use Rattle.interleave.specs.Slots.{in_slots, placed_none, placed_more}

@@ -1,8 +1,7 @@
 -- `packed::bytes::bytes_of` meets its contract. The invariant: the first i symbols stand.
 use native.Mathlib.Omega.{arith}
-use Prim.Native.Nat.{◌-◌}
 use Rattle.algebra.specs.Lists.{filled_none, filled_more, filled_all}
-use Rattle.algebra.specs.Bytes.{byte, bytes}
+use Rattle.algebra.specs.Bytes.{bytes}
 use borrow.Author.Rules.{rules}
 use Rattle.packed.proofs.bytes.bytes_of.Goals as goal
 
