@@ -1,0 +1,11 @@
+-- `yaxo_masts_receive` meets its contract: the answer shown is one that the call below promises, of the same setting.
+use Rattle.radio.proofs.masts.yaxo_masts_receive.Goals as goal
+
+pub returns : goal.returns
+returns c =
+    let told = c.receive_masts-t in
+    record {
+      inner = told.result;
+      promised = rw c.framing_of.ensures at told.ensures;
+      same = c.chosen_answer.ensures;
+    }
