@@ -9,7 +9,7 @@ use word::Figures;
 
 // A frame as C sets it.
 #[repr(C)]
-#[derive(Drop)]
+#[derive(Clone, Copy)]
 pub struct FrameSetting {
     pub depth: u32,
     pub n: u32,
@@ -19,7 +19,7 @@ pub struct FrameSetting {
 
 // What receiving answers: the paper's number, the refused word's, the sequence number, the payload's place in the area, and the figures.
 #[repr(C)]
-#[derive(Drop)]
+#[derive(Clone, Copy)]
 pub struct FrameAnswer {
     pub answer: u8,
     pub word: u8,
@@ -31,7 +31,7 @@ pub struct FrameAnswer {
 
 // What a frame that is only asked about is answered: the paper's number, 1 where every word is a codeword, and the first word that is none.
 #[repr(C)]
-#[derive(Drop)]
+#[derive(Clone, Copy)]
 pub struct FrameClean {
     pub answer: u8,
     pub clean: u8,

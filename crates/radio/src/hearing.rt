@@ -7,7 +7,7 @@ use link::hear;
 
 // The record after a frame, and what the frame was answered.
 #[repr(C)]
-#[derive(Drop)]
+#[derive(Clone, Copy)]
 pub struct HeardAnswer {
     pub next: LentRecord,
     pub answer: FrameAnswer,

@@ -9,7 +9,7 @@ use interleave::{
 
 // A delay line as C sets it.
 #[repr(C)]
-#[derive(Drop)]
+#[derive(Clone, Copy)]
 pub struct LineSetting {
     pub branches: u32,
     pub unit: u32,
@@ -18,7 +18,7 @@ pub struct LineSetting {
 
 // What a step of the sender answers: its number, the byte that leaves, and the position for the next step.
 #[repr(C)]
-#[derive(Drop)]
+#[derive(Clone, Copy)]
 pub struct LineSent {
     pub answer: u8,
     pub byte: u8,
@@ -27,7 +27,7 @@ pub struct LineSent {
 
 // The same with the byte that leaves the receiver, and its mark.
 #[repr(C)]
-#[derive(Drop)]
+#[derive(Clone, Copy)]
 pub struct LineReceived {
     pub answer: u8,
     pub byte: u8,

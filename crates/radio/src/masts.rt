@@ -10,7 +10,7 @@ use link::{Chosen, Mast, hear_masts, masts_payload, receive_masts};
 
 // The mast that is used, and what both copies are answered, as a frame's answer.
 #[repr(C)]
-#[derive(Drop)]
+#[derive(Clone, Copy)]
 pub struct ChosenAnswer {
     pub mast: u8,
     pub frame: FrameAnswer,
@@ -18,7 +18,7 @@ pub struct ChosenAnswer {
 
 // The record after two copies, and what they were answered.
 #[repr(C)]
-#[derive(Drop)]
+#[derive(Clone, Copy)]
 pub struct MastsAnswer {
     pub next: LentRecord,
     pub answer: ChosenAnswer,

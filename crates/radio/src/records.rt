@@ -8,7 +8,7 @@ use record::{Kind, Record, note, standing_of, unseen_of};
 
 // The record as C lends it. C can put any byte where a `bool` is to be, so `accepted` is a byte: 0, or anything else for yes.
 #[repr(C)]
-#[derive(Drop)]
+#[derive(Clone, Copy)]
 pub struct LentRecord {
     pub accepted: u8,
     pub last: u16,

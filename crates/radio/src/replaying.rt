@@ -8,7 +8,7 @@ use link::{Replayed, replay};
 
 // What a replay answers: the whole call's number, and how many frames were heard.
 #[repr(C)]
-#[derive(Drop)]
+#[derive(Clone, Copy)]
 pub struct ReplayedAnswer {
     pub answer: u8,
     pub frames: usize,
@@ -16,7 +16,7 @@ pub struct ReplayedAnswer {
 
 // The record after the last frame, and the answer.
 #[repr(C)]
-#[derive(Drop)]
+#[derive(Clone, Copy)]
 pub struct ReplayAnswer {
     pub next: LentRecord,
     pub answer: ReplayedAnswer,

@@ -8,7 +8,7 @@ use word::{Clean, Decoded, Figures, Setting, decode, decode_part, encode, is_all
 
 // A word code as C sets it. 32 bits hold every number that C is likely to hand in by mistake, -1 too, so that it is refused.
 #[repr(C)]
-#[derive(Drop)]
+#[derive(Clone, Copy)]
 pub struct CodeSetting {
     pub m: u32,
     pub n: u32,
@@ -18,7 +18,7 @@ pub struct CodeSetting {
 
 // What decoding answers: the paper's number, and the figures of an accepted word.
 #[repr(C)]
-#[derive(Drop)]
+#[derive(Clone, Copy)]
 pub struct WordAnswer {
     pub answer: u8,
     pub figures: Figures,
@@ -26,7 +26,7 @@ pub struct WordAnswer {
 
 // What a word that is only asked about is answered: the paper's number, and 1 where it is a codeword.
 #[repr(C)]
-#[derive(Drop)]
+#[derive(Clone, Copy)]
 pub struct WordClean {
     pub answer: u8,
     pub clean: u8,
