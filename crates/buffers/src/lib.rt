@@ -1,4 +1,6 @@
 // Plain work on lent buffers, which the crates above share: to fill one, to copy or join, and to look at every byte.
+#![tactic(auto)]
+
 ghost use Rattle.std.specs.Prelude.{◌≡◌, ◌++◌, ◌+◌, ◌≤◌, length, take, replicate};
 ghost use Rattle.algebra.specs.Tests.{below};
 

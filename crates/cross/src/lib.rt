@@ -1,5 +1,7 @@
 // The cross line of document 01: an outer word's bytes are spread over 109 frames, and each frame goes out as an inner word. A frame is one
 // call, both ways. What each call promises is defined in specs/, in the paper's order.
+#![tactic(auto)]
+
 mod codes;
 mod delays;
 pub mod position;

@@ -6,7 +6,7 @@ use word::Figures;
 
 // The number a call answers, and the position for the next call. It goes to C as it is.
 #[repr(C)]
-#[derive(Drop)]
+#[derive(Clone, Copy)]
 pub struct Ready {
     pub answer: u8,
     pub position: usize,
@@ -15,7 +15,7 @@ pub struct Ready {
 // The number a frame answers, e, f and bits of its outer word (0 under any other answer), and the position for the next frame.
 // It goes to C as it is.
 #[repr(C)]
-#[derive(Drop)]
+#[derive(Clone, Copy)]
 pub struct Received {
     pub answer: u8,
     pub figures: Figures,

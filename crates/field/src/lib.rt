@@ -1,5 +1,7 @@
 // The fields of 8 and of 256 elements: document 01, section Field. Sum, product, powers and inverse as calls that refuse what is no
 // field or no element. The modules have the same for the word code, which has checked its setting already.
+#![tactic(auto)]
+
 pub mod lanes;
 pub mod shifts;
 pub mod tables;
@@ -10,7 +12,7 @@ ghost use Rattle.field.specs.Elements.{wide};
 ghost use Rattle.algebra.specs.Xor.{◌⊕◌};
 
 // What a call answers: an element, or why there is none. Its numbers are document 01's 0, 1 and 3.
-#[derive(Drop)]
+#[derive(Clone, Copy)]
 pub enum Element {
     Is(u8),
     BadField,

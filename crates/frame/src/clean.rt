@@ -11,7 +11,7 @@ use crate::setting::{Framing, is_allowed, words_of};
 use word::tables::{is_clean_by, no_table, prepare};
 
 // What a frame is answered. One that is not clean names its first word that is not.
-#[derive(Drop)]
+#[derive(Clone, Copy)]
 pub enum Clean {
     Yes,
     No(u8),

@@ -5,7 +5,7 @@ ghost use Rattle.frame.specs.Frame.{allowed_frame, word_setting};
 use word::{Figures, Setting};
 
 // What a frame is set to: its depth, and its words' n, r and b. Its symbols are bytes.
-#[derive(Drop)]
+#[derive(Clone, Copy)]
 pub struct Framing {
     pub depth: usize,
     pub n: usize,
@@ -14,7 +14,7 @@ pub struct Framing {
 }
 
 // What sending answers.
-#[derive(Drop)]
+#[derive(Clone, Copy)]
 pub enum Sent {
     Done,
     BadSetting,
@@ -23,7 +23,7 @@ pub enum Sent {
 }
 
 // How receiving ends. A frame beyond reach names its first word that is.
-#[derive(Drop)]
+#[derive(Clone, Copy)]
 pub enum Verdict {
     Done,
     BadSetting,
@@ -34,7 +34,7 @@ pub enum Verdict {
 }
 
 // What receiving answers: the numbers of an accepted frame, with the figures of each word. All are 0 under a refusal.
-#[derive(Drop)]
+#[derive(Clone, Copy)]
 pub struct Received {
     pub verdict: Verdict,
     pub sequence: u16,

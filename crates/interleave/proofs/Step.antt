@@ -10,11 +10,9 @@ use Rattle.algebra.specs.Tests.{at}
 use Rattle.algebra.specs.Refusal.{if_zero}
 use Rattle.rings.specs.Run.{run}
 use Rattle.interleave.specs.Setting.{line_refusal, receive_refusal}
-use Rattle.interleave.specs.Promises.{ready, send_step, receive_step, send_run, receive_run, SendStep, ReceiveStep, SendRun, ReceiveRun}
+use Rattle.interleave.specs.Promises.{send_step, receive_step, send_run, receive_run, SendStep, ReceiveStep, SendRun, ReceiveRun}
 use Rattle.interleave.specs.declared.line.Line.{Line}
 use Rattle.interleave.specs.declared.line.Ready.{Ready}
-use Rattle.interleave.specs.declared.line.Sent.{Sent}
-use Rattle.interleave.specs.declared.line.Received.{Received}
 
 -- a choice by k, and another by the same k that f or g makes of it
 same_choice : {A B : Type 0} (k : ℕ) (x a b : A) (y c d : B) → x ≡ if_zero k a b → (k ≡ 0 → x ≡ a → y ≡ c) → (k ≢ 0 → x ≡ b → y ≡ d) → y ≡ if_zero k c d

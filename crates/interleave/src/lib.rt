@@ -1,5 +1,7 @@
 // The interleavers of document 01: the block interleaver of a frame, and the delay line's sender and receiver.
 // They move bytes and marks, and know nothing of codes or frames. What each call promises is defined in specs/, in the paper's order.
+#![tactic(auto)]
+
 mod block;
 pub mod line;
 mod receiver;

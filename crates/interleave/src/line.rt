@@ -8,7 +8,7 @@ ghost use Rattle.interleave.specs.Setting.{line_refusal, receiver_refusal};
 use rings::run;
 
 // A line's setting and its position, the number of steps so far modulo the line's period. Sender and receiver have one each.
-#[derive(Drop)]
+#[derive(Clone, Copy)]
 pub struct Line {
     pub branches: usize,
     pub unit: usize,
@@ -17,14 +17,14 @@ pub struct Line {
 }
 
 // The number a call answers, and the line for the next call.
-#[derive(Drop)]
+#[derive(Clone, Copy)]
 pub struct Ready {
     pub answer: u8,
     pub line: Line,
 }
 
 // What a step of the sender answers: its number, the byte that leaves (0 under a refusal), and the line for the next step.
-#[derive(Drop)]
+#[derive(Clone, Copy)]
 pub struct Sent {
     pub answer: u8,
     pub byte: u8,
@@ -32,7 +32,7 @@ pub struct Sent {
 }
 
 // What a step of the receiver answers: its number, the byte and the mark that leave (0 under a refusal), and the line for the next step.
-#[derive(Drop)]
+#[derive(Clone, Copy)]
 pub struct Received {
     pub answer: u8,
     pub byte: u8,

@@ -2,6 +2,8 @@
 // frame of interleaved words; a received frame is decoded into a lent message area, which then holds the payload; and what each frame was
 // answered is noted in the receiver's record. Frames that lie end to end are heard in one call: document 02, No. 2, A morning's frames at once. Two
 // receivers may hear one frame: No. 1, Two masts. What each call promises stands in specs/Promises.antt, and in those of frame and record.
+#![tactic(auto)]
+
 mod choice;
 mod hearing;
 mod masts;

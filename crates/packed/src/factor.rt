@@ -9,7 +9,7 @@ use crate::pair::Pair;
 use field::shifts::double;
 
 // A factor times 1, 2, 4, .., 128.
-#[derive(Drop)]
+#[derive(Clone, Copy)]
 pub struct Factor {
     pub f0: u8,
     pub f1: u8,

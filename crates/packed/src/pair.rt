@@ -7,7 +7,7 @@ ghost use Rattle.packed.specs.Doubles.{Doubled, DoubledPair};
 
 use crate::bytes::wide;
 
-#[derive(Drop)]
+#[derive(Clone, Copy)]
 pub struct Pair {
     pub low: u64,
     pub high: u64,

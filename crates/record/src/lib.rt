@@ -1,6 +1,8 @@
 // The receiver's record: document 01, section Receiver's record, with the memory of document 02, No. 7. It holds the newest sequence
 // number, which of the 32 just below it were accepted, and how many frames were newer, repeated, older, refused and late. What each call
 // promises is defined in specs/Record.antt and specs/Promises.antt.
+#![tactic(auto)]
+
 ghost use Rattle.std.specs.Prelude.{◌≡◌, ◌≤◌};
 ghost use Rattle.record.specs.Memory.{unseen_in};
 ghost use Rattle.record.specs.Record.{one_more, fresh_record, memory_after, counted_as, lost_after, behind_by, standing};
@@ -15,7 +17,7 @@ use order::{Order, compare, lag_of, lead_of};
 
 // A caller makes it by `fresh` and hands it to every call that receives. The C face lends it, so its fields keep their order.
 #[repr(C)]
-#[derive(Drop)]
+#[derive(Clone, Copy)]
 pub struct Record {
     pub accepted: bool,
     pub last: u16,
@@ -28,7 +30,7 @@ pub struct Record {
 }
 
 // How a sequence number stands to what the record has accepted.
-#[derive(Drop)]
+#[derive(Clone, Copy)]
 pub enum Kind {
     Newer,
     Repeat,

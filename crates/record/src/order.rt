@@ -4,7 +4,7 @@ ghost use Rattle.std.specs.Prelude.{◌≡◌};
 ghost use Rattle.record.specs.Order.{lead, lag, compared};
 
 // A number is the other one again, ahead of it by 1 to 32767, or behind it.
-#[derive(Drop)]
+#[derive(Clone, Copy)]
 pub enum Order {
     Same,
     Ahead,

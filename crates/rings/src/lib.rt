@@ -1,4 +1,6 @@
 // Rings of bytes end to end in one lent memory, the shortest first: what every delay is made of, also the cross line's.
+#![tactic(auto)]
+
 ghost use Rattle.std.specs.Prelude.{◌≡◌, ℕ, ◌+◌, ◌-◌, ◌%◌, ◌≤◌, ◌<◌, length};
 ghost use Rattle.rings.specs.Rings.{RingFits, order};
 ghost use Rattle.rings.specs.Run.{RunFits, ran, run};

@@ -1,5 +1,7 @@
 // Text in a lent buffer: bytes as they are, numbers in decimal, the line of a refusal and bytes in base sixteen (document 01, section
 // Worked table). Each call writes its piece from `at` on, where there is room for it, and answers where the next one goes.
+#![tactic(auto)]
+
 ghost use Rattle.std.specs.Prelude.{[], ◌∷◌, ◌≡◌, ◌+◌, ◌*◌, ◌≤◌, ◌<◌, length};
 ghost use Rattle.text.specs.Put.{Put};
 ghost use Rattle.text.specs.Text.{digit as Text·digit, decimal, signed, named, refusal, hex_digit, hex, hexes};

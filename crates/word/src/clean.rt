@@ -9,7 +9,7 @@ use crate::limits::clean_refusal;
 use crate::tables::{is_clean_by, no_table, prepare};
 
 // What a word is answered. The paper's number of the first two is 0, and of the others 1 to 3, in this order.
-#[derive(Drop)]
+#[derive(Clone, Copy)]
 pub enum Clean {
     Yes,
     No,

@@ -1,6 +1,8 @@
 // The word code: document 01, section Word code. A word of n symbols is encoded from its k message symbols, and a received one is
 // corrected in place, or its message handed to a part of an area, or only asked whether it is a codeword. Every call checks its own input, in the paper's order. What each promises is
 // defined in specs/, in the paper's order.
+#![tactic(auto)]
+
 pub mod clean;
 pub mod correct;
 pub mod count;
@@ -29,7 +31,7 @@ use map::note_changes;
 use numbers::number_of;
 
 // What a word code is set to: m bits a symbol, n symbols a word, r check symbols, and b, the power of a at which its zeros start.
-#[derive(Drop)]
+#[derive(Clone, Copy)]
 pub struct Setting {
     pub m: usize,
     pub n: usize,
@@ -39,7 +41,7 @@ pub struct Setting {
 
 // What an accepted word was found to have: unmarked wrong symbols, marked ones, and changed bits. It goes to C as it is.
 #[repr(C)]
-#[derive(Drop)]
+#[derive(Clone, Copy)]
 pub struct Figures {
     pub errors: u16,
     pub marked: u16,
@@ -47,7 +49,7 @@ pub struct Figures {
 }
 
 // What decoding answers. Its numbers are the paper's 0 to 4, in this order.
-#[derive(Drop)]
+#[derive(Clone, Copy)]
 pub enum Decoded {
     Done(Figures),
     BadSetting,
@@ -57,7 +59,7 @@ pub enum Decoded {
 }
 
 // What encoding answers. Its numbers are the paper's 0 to 3, in this order.
-#[derive(Drop)]
+#[derive(Clone, Copy)]
 pub enum Encoded {
     Done,
     BadSetting,

@@ -1,0 +1,18 @@
+-- `checks::turns::remainder_of` meets its contract. The invariant of both loops: the two words are the register after i symbols.
+use mathlib.Core.Path.{◌≡◌}
+use Prim.Native.Nat.{◌-◌, ◌%◌, ◌≤◌}
+use Rattle.checks.specs.Spaced.{spaced}
+use Rattle.checks.specs.Division.{Divided}
+use Rattle.checks.proofs.turns.remainder_of.Given as goal
+
+abbrev pub invariant-loop-i : goal.invariant-loop-i
+invariant-loop-i l = (l.i % 4 ≡ 0) × (l.i ≤ l.whole) × Divided l.low l.high (spaced l.step l.first l.n l.slots) l.i l.p.low l.p.high
+
+abbrev pub decreases-loop-i : goal.decreases-loop-i
+decreases-loop-i l = l.whole - l.i
+
+abbrev pub invariant-loop-i-2 : goal.invariant-loop-i-2
+invariant-loop-i-2 l = Divided l.low l.high (spaced l.step l.first l.n l.slots) l.i l.p.low l.p.high
+
+abbrev pub decreases-loop-i-2 : goal.decreases-loop-i-2
+decreases-loop-i-2 l = l.n - l.i
