@@ -10,6 +10,7 @@ const STDIN: i32 = 0;
 const STDOUT: i32 = 1;
 
 // Reads as much as decides the answer, and no more: input without an end is answered too.
+#[tactic(auto, using(reader::specs::Head::wanted_bounds))]
 fn read_input(input: &mut [u8]) -> usize
     requires { 4096 ≡ length input.old }
     ensures { IsPrefixLen result input.new }
@@ -22,6 +23,7 @@ fn read_input(input: &mut [u8]) -> usize
     4 + io::read_full(STDIN, &mut input[4..end])
 }
 
+#[tactic(auto, using(reader::specs::Promises::reports_within))]
 fn main() {
     let mut input = io::buffer();
     let mut text = [0u8; 30000];
