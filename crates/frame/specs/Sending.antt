@@ -1,16 +1,13 @@
 -- The loop that fills a frame's slots, and the answers of sending one by one.
 -- Assumes nothing.
-use Rattle.std.specs.Prelude.{◌≡◌, refl, List, ℕ, ◌+◌, ◌*◌, ◌≤◌, ◌<◌, length}
+use Rattle.std.specs.Prelude.{◌≡◌, List, ℕ, ◌+◌, ◌*◌, ◌≤◌, ◌<◌, length}
 use Rattle.std.proofs.Common.{sym, ◌∙◌, arith}
 use Rattle.std.proofs.Math.Path.{ap}
 use Rattle.algebra.specs.Lists.{tabulate, length_tabulate, Copied, part, within, part_entries}
 use Rattle.word.specs.Setting.{message_size, allowed_yes}
 use Rattle.word.specs.Code.{encoded}
-use Rattle.word.specs.Promises.{Encodes}
 use Rattle.word.specs.Refusals.{MessageChecked}
 use Rattle.algebra.specs.Refusal.{new, kept}
-use Rattle.word.specs.Met.{encodes_gives}
-use Rattle.word.specs.declared.Encoded.{Encoded}
 use Rattle.interleave.specs.Slots.{PutsWord, Putting, putting_none, putting_more, putting_all}
 use Rattle.frame.specs.Frame.{word_setting, area_size, area_byte, area_sent, word_sent, slots_sent, sent_as, send_refusal, sending}
 use Rattle.frame.specs.Frame.Limits.{FrameAllowed}

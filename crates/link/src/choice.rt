@@ -9,7 +9,7 @@ use word::Figures;
 use word::numbers::no_figures;
 
 // The mast whose copy is used.
-#[derive(Drop)]
+#[derive(Clone, Copy)]
 pub enum Mast {
     First,
     Second,
@@ -18,7 +18,7 @@ pub enum Mast {
 
 // What two copies of a frame are answered together: the paper's number, the refused word's, and of an accepted frame its numbers and the
 // figures of each word. They are those of the copy that is used. Where neither is, they are the first's refusal, or 8 and zeros.
-#[derive(Drop)]
+#[derive(Clone, Copy)]
 pub struct Chosen {
     pub mast: Mast,
     pub number: u8,

@@ -12,7 +12,7 @@ use Rattle.checks.specs.Left.{LeftOver, left_none}
 use Rattle.checks.specs.Checks.{Checks}
 use Rattle.checks.specs.Spaced.{spaced, spaced_rule, length_spaced, behind_at, Agree, spaced_front, spaced_rest}
 use Rattle.word.specs.Setting.{allowed, limits, message_size}
-use Rattle.word.specs.Word.{errors, marked, bits}
+use Rattle.word.specs.Word.{marked}
 use Rattle.word.specs.Codeword.{is_codeword, Codeword, codeword, is_codeword_lem, in_reach, is_in_reach}
 use Rattle.word.specs.Distance.{errors_self, bits_self}
 use Rattle.word.specs.Code.{corrected}

@@ -21,7 +21,7 @@ first_of_sound : (P : List ℕ → Type 0) (N : ℕ → Type 0) (q : ℕ) (f : �
 unfolding first_of
 first_of_sound P N zero f h = λ x l. absurd (not-suc-le-zero l)
 first_of_sound P N (suc q) f h =
-    or_else_sound P _ _ _ (first_of q f) (f q) (λ a b x l. elim (ℕ_discrete x q) [ yes e ↦ rw e b | no ne ↦ a x (omega arith) ])
+    or_else_sound P ((x : ℕ) → x < q → N x) (N q) _ (first_of q f) (f q) (λ a b x l. elim (ℕ_discrete x q) [ yes e ↦ rw e b | no ne ↦ a x (omega arith) ])
     (first_of_sound P N q f λ x l. h x (omega arith)) (h q (omega arith))
 
 -- n numbers below q that pass the test

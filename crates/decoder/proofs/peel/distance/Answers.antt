@@ -1,0 +1,29 @@
+-- `decoder::peel::distance` meets its contract. The loop's invariant (`Nearing`): what is multiplied, times the differences that are left, is
+-- the distance. The measure is the number of places left.
+use native.Mathlib.Omega.{arith}
+use Rattle.decoder.specs.Peeling.{nearing_start}
+use Rattle.decoder.specs.Listing.{from, far_take, far_skip, far_end}
+use Rattle.decoder.proofs.peel.distance.Goals as goal
+use Rattle.decoder.proofs.peel.distance.Goals.{then-i-p, else-i-p}
+
+pub loop-s-init : goal.loop-s-init
+unfolding from
+loop-s-init c = (omega arith, λ flags h. nearing_start)
+
+pub overflow_cast-i : goal.overflow_cast-i
+overflow_cast-i c = omega (arith, c.requires.n_bound.3 c.loop-s.s (omega arith))
+
+pub bounds-locators-i : goal.bounds-locators-i
+bounds-locators-i c = omega (arith, c.requires.n_bound.3 c.loop-s.s (omega arith))
+
+pub loop-s-preserved : goal.loop-s-preserved
+loop-s-preserved c =
+    let o = c.loop-s in
+    let inside = c.requires.n_bound.3 o.s (omega arith) in
+    elim c.if-i-p.branch [
+      | then-i-p w ↦ (omega arith, λ flags h. rw w.far-is (far_take h (omega arith) (o.invariant.1 flags h) w.if-i-p.true (c.requires.locators.entry _ (omega arith)) (c.requires.locators.entry _ inside) w.times-far.ensures))
+      | else-i-p w ↦ (omega arith, λ flags h. rw w.far-is (far_skip h (omega arith) (o.invariant.1 flags h) w.if-i-p.false))
+    ]
+
+pub returns : goal.returns
+returns c = λ flags h. far_end h (omega arith) (c.loop-s.invariant.1 flags h)

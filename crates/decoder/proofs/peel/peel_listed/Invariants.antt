@@ -1,0 +1,14 @@
+-- `decoder::peel::peel_listed` meets its contract: it peels the places in the order in which the theory does. The loop's invariant (`Peeling`):
+-- to peel the places that are left, from a sequence that the sums agree with as far as they count, is to peel all. The measure is the
+-- number of places left.
+use mathlib.Core.List.{List}
+use Prim.Native.Nat.{ℕ, ◌-◌, ◌≤◌}
+use Rattle.decoder.specs.Peeling.{Peeling}
+use Rattle.decoder.specs.Listing.{Listed, from}
+use Rattle.decoder.proofs.peel.peel_listed.Given as goal
+
+abbrev pub invariant-loop-s : goal.invariant-loop-s
+invariant-loop-s l = (l.s ≤ l.count) × ((flags : List ℕ) → Listed l.n flags l.count l.places → Peeling l.m l.n flags l.skip l.initial.rest (from l.places l.s) l.rest)
+
+abbrev pub decreases-loop-s : goal.decreases-loop-s
+decreases-loop-s l = l.count - l.s

@@ -1,0 +1,56 @@
+-- `send` meets its contract: a refusal leaves the slots, and the rest is the loop over the words, in work space of its own.
+use mathlib.Core.Path.{◌≡◌, sym, ◌∙◌}
+use mathlib.Core.List.{List}
+use Prim.Native.Nat.{ℕ, ◌≤◌}
+use native.Mathlib.Omega.{arith}
+use lib.ListN.{length, take}
+use lib.Seq.{length-take-le}
+use Rattle.frame.specs.Frame.Limits.{short_word}
+use Rattle.frame.specs.Checks.{send_checked}
+use Rattle.frame.specs.Sending.{send_refused, send_done}
+use Rattle.frame.proofs.sender.send.Goals as goal
+
+-- the front of the work space
+front : (n : ℕ) (l : List ℕ) → n ≤ 255 → length l ≡ 255 → length (take n l) ≡ n
+front n l h e = length-take-le n l (omega arith)
+
+pub returns-then-number-ne0 : goal.returns-then-number-ne0
+returns-then-number-ne0 c = rw c.sent_as.ensures (send_refused _ _ _ _ _ c.send_refusal-number.ensures (omega arith))
+
+pub prepare-requires : goal.prepare-requires
+prepare-requires c =
+    let words = (send_checked _ _ _ (sym c.send_refusal-number.ensures ∙ c.if-number-ne0.false)).limits.words in
+    rw c.words_of.ensures (words.start, words.high, c.no_table-low.ensures, c.no_table-high.ensures)
+
+pub overflow_sub-k : goal.overflow_sub-k
+overflow_sub-k c = omega (arith, (send_checked _ _ _ (sym c.send_refusal-number.ensures ∙ c.if-number-ne0.false)).limits.words.room)
+
+pub slice_bounds-message-end : goal.slice_bounds-message-end
+slice_bounds-message-end c = omega (arith, short_word _ (send_checked _ _ _ (sym c.send_refusal-number.ensures ∙ c.if-number-ne0.false)).limits)
+
+pub slice_bounds-send_words-end : goal.slice_bounds-send_words-end
+slice_bounds-send_words-end c =
+    let given = send_checked _ _ _ (sym c.send_refusal-number.ensures ∙ c.if-number-ne0.false) in
+    sym (front _ c.work_space-message.result (omega (arith, short_word _ given.limits)) c.work_space-message.ensures)
+
+pub slice_bounds-word-end : goal.slice_bounds-word-end
+slice_bounds-word-end c = omega (arith, short_word _ (send_checked _ _ _ (sym c.send_refusal-number.ensures ∙ c.if-number-ne0.false)).limits)
+
+pub slice_bounds-send_words-end-2 : goal.slice_bounds-send_words-end-2
+slice_bounds-send_words-end-2 c =
+    let given = send_checked _ _ _ (sym c.send_refusal-number.ensures ∙ c.if-number-ne0.false) in
+    sym (front _ c.work_space-word.result (short_word _ given.limits) c.work_space-word.ensures)
+
+pub send_words-requires : goal.send_words-requires
+send_words-requires c =
+    let given = send_checked _ _ _ (sym c.send_refusal-number.ensures ∙ c.if-number-ne0.false) in (
+      record {
+        checked = given;
+        message_size_lem = front _ c.work_space-message.result (omega (arith, short_word _ given.limits)) c.work_space-message.ensures;
+        word_size = front _ c.work_space-word.result (short_word _ given.limits) c.work_space-word.ensures;
+      },
+      rw c.words_of.ensures at c.prepare.ensures,
+    )
+
+pub returns : goal.returns
+returns c = send_done _ _ _ _ (send_checked _ _ _ (sym c.send_refusal-number.ensures ∙ c.if-number-ne0.false)) _ c.send_words.ensures

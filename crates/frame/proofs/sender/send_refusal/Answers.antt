@@ -1,0 +1,43 @@
+-- `send_refusal` meets its contract: each return is the first need that is not met, or, at the end, all are.
+use mathlib.Core.Path.{refl}
+use native.Mathlib.Omega.{arith}
+use Rattle.algebra.specs.Tests.{passed}
+use Rattle.algebra.specs.Refusal.{need_yes, need_no, test_yes, test_no}
+use Rattle.frame.specs.Frame.Limits.{frame_kept, area_few, slots_few}
+use Rattle.frame.specs.Frame.{send_refusal}
+use Rattle.frame.proofs.sender.send_refusal.Goals as goal
+
+pub returns-then-not-is_allowed : goal.returns-then-not-is_allowed
+unfolding send_refusal
+returns-then-not-is_allowed c = need_no _ _ _ (test_no _ _ c.is_allowed.ensures c.if-not-is_allowed.true-raw)
+
+pub overflow_mul-f : goal.overflow_mul-f
+overflow_mul-f c =
+    omega (arith, slots_few _ (frame_kept _ (passed _ (test_yes _ _ c.is_allowed.ensures c.if-not-is_allowed.false-raw))))
+
+pub returns-then-slots-f : goal.returns-then-slots-f
+unfolding send_refusal
+returns-then-slots-f c =
+    need_yes _ _ _ _ (test_yes _ _ c.is_allowed.ensures c.if-not-is_allowed.false-raw) (need_no _ _ _ c.if-slots-f.true)
+
+pub overflow_sub-f : goal.overflow_sub-f
+overflow_sub-f c =
+    omega (arith, (frame_kept _ (passed _ (test_yes _ _ c.is_allowed.ensures c.if-not-is_allowed.false-raw))).words.room)
+
+pub overflow_mul-f-2 : goal.overflow_mul-f-2
+overflow_mul-f-2 c =
+    omega (arith, area_few _ (frame_kept _ (passed _ (test_yes _ _ c.is_allowed.ensures c.if-not-is_allowed.false-raw))))
+
+pub overflow_sub-f-2 : goal.overflow_sub-f-2
+overflow_sub-f-2 c =
+    omega (arith, (frame_kept _ (passed _ (test_yes _ _ c.is_allowed.ensures c.if-not-is_allowed.false-raw))).room)
+
+pub returns-then-f-payload : goal.returns-then-f-payload
+unfolding send_refusal
+returns-then-f-payload c =
+    need_yes _ _ _ _ (test_yes _ _ c.is_allowed.ensures c.if-not-is_allowed.false-raw) (need_yes _ _ _ _ c.if-slots-f.false (need_no _ _ _ λ l. omega arith))
+
+pub returns : goal.returns
+unfolding send_refusal
+returns c =
+    need_yes _ _ _ _ (test_yes _ _ c.is_allowed.ensures c.if-not-is_allowed.false-raw) (need_yes _ _ _ _ c.if-slots-f.false (need_yes _ _ _ _ c.if-f-payload.false refl))

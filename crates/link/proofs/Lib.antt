@@ -1,4 +1,0 @@
-pub mod Plain
-pub mod Lent
-pub mod LentReplay
-pub mod LentMasts

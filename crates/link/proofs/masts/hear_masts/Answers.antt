@@ -1,0 +1,6 @@
+-- `hear_masts` meets its contract: the answer is what receiving both promises, and the record is what noting it promises.
+use Rattle.link.specs.Promises.{masts_received_and_noted}
+use Rattle.link.proofs.masts.hear_masts.Goals as goal
+
+pub returns : goal.returns
+returns c = masts_received_and_noted c.receive_masts-answer.ensures c.note-next.ensures

@@ -1,0 +1,6 @@
+-- `receive_masts` meets its contract: each copy is what receiving promises, and the answer is chosen of these two.
+use Rattle.link.specs.Promises.{each_received}
+use Rattle.link.proofs.masts.receive_masts.Goals as goal
+
+pub returns : goal.returns
+returns c = each_received c.receive-one.ensures c.receive-other.ensures c.choose.ensures

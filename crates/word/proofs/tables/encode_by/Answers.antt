@@ -1,0 +1,22 @@
+-- `encode_by` meets its contract: the register's check symbols complete the message.
+use mathlib.Core.Path.{◌≡◌, sym}
+use native.Mathlib.Omega.{arith}
+use lib.ListN.{length}
+use Rattle.word.specs.Setting.{limits}
+use Rattle.word.specs.Encoding.{encoded_front}
+use borrow.Author.Rules.{rules}
+use Rattle.word.proofs.tables.encode_by.Goals as goal
+
+pub join-requires : goal.join-requires
+join-requires c =
+    let given = c.requires.0 in
+    let size : length c.check_symbols_by-checks.result ≡ 16 = search rules in
+    omega (arith, (limits _ given.setting).high, given.size, given.word_size)
+
+pub returns : goal.returns
+returns c =
+    let checks = c.check_symbols_by-checks in
+    let given = c.requires.0 in
+    let size : length checks.result ≡ 16 = search rules in
+    rw (c.join.ensures, given.word_size)
+    (sym (encoded_front _ given.setting _ _ given.size size given.small (checks.ensures.each _ _ c.requires.1)))
