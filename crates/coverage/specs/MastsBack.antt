@@ -1,7 +1,7 @@
 -- A message that two masts heard comes back: a copy that meets its proviso returns it alone, and choosing hands back that copy or one that returned
 -- the same (document 02, No. 1).
 -- Assumes nothing.
-use Rattle.std.specs.Prelude.{◌≡◌, ◌⊎◌, ◌≢◌, T}
+use Rattle.std.specs.Prelude.{◌≡◌, ◌≢◌, T}
 use Rattle.std.proofs.Math.Path.{sym, ap}
 use Rattle.std.proofs.Common.{ap₂, ◌∙◌, ⊎_elim, arith}
 use Rattle.std.proofs.Math.Decide.{dec_le}

@@ -1,0 +1,48 @@
+-- `reading::put_unmarked` meets its contract: the parts of the work space are no marks, a fresh area and a fresh map, of the lengths that the frame has.
+use native.Mathlib.Omega.{arith}
+use Rattle.frame.specs.Frame.Limits.{slots_few, area_few}
+use Rattle.reader.specs.Spoken.Answers.{part_size, unmarked}
+use Rattle.frame.specs.Frame.{slot_count, area_size}
+use Rattle.reader.proofs.reading.put_unmarked.Goals as goal
+
+pub overflow_mul-count : goal.overflow_mul-count
+overflow_mul-count c = omega (arith, slots_few _ c.requires.0)
+
+pub overflow_sub-size : goal.overflow_sub-size
+overflow_sub-size c = omega (arith, c.requires.0.words.room)
+
+pub overflow_mul-size : goal.overflow_mul-size
+overflow_mul-size c = omega (arith, area_few _ c.requires.0)
+
+pub slice_bounds-marks-end : goal.slice_bounds-marks-end
+slice_bounds-marks-end c = omega (arith, slots_few _ c.requires.0)
+
+pub slice_bounds-put_answer-end : goal.slice_bounds-put_answer-end
+slice_bounds-put_answer-end c =
+    part_size _ _ (slots_few _ c.requires.0) c.work_space-marks.ensures.1
+
+pub slice_bounds-area-end : goal.slice_bounds-area-end
+slice_bounds-area-end c = omega (arith, area_few _ c.requires.0)
+
+pub slice_bounds-put_answer-end-2 : goal.slice_bounds-put_answer-end-2
+slice_bounds-put_answer-end-2 c =
+    part_size _ _ (area_few _ c.requires.0) c.work_space-area.ensures.1
+
+pub slice_bounds-map-end : goal.slice_bounds-map-end
+slice_bounds-map-end c = omega (arith, slots_few _ c.requires.0)
+
+pub slice_bounds-put_answer-end-3 : goal.slice_bounds-put_answer-end-3
+slice_bounds-put_answer-end-3 c =
+    part_size _ _ (slots_few _ c.requires.0) c.work_space-map.ensures.1
+
+pub put_answer-requires : goal.put_answer-requires
+put_answer-requires c =
+    let few = c.requires.0 in
+    let area = part_size (area_size c.args.f) c.work_space-area.result (area_few _ few) c.work_space-area.ensures.1 in
+    let map = part_size (slot_count c.args.f) c.work_space-map.result (slots_few _ few) c.work_space-map.ensures.1 in
+    omega (arith, few.few, area_few _ few, slots_few _ few)
+
+pub returns : goal.returns
+returns c =
+    let few = c.requires.0 in
+    rw (unmarked _ _ _ _ _ few c.work_space-marks.ensures.0 c.work_space-area.ensures.0 c.work_space-map.ensures.0) at c.put_answer.ensures
