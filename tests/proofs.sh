@@ -5,8 +5,8 @@ fail() { # WHY
   echo "$1"
   status=1
 }
-grep -rnE '(^|[ (])\?[a-z]*$|= \?$' crates --include='*.antt' && fail "a hole"
-grep -rnE '^ *axiom ' crates --include='*.antt' && fail "an axiom"
+grep -rnE '(^|[ (])\?[a-z]*$|= \?$' crates --include='*.antt' --exclude-dir=out && fail "a hole"
+grep -rnE '^ *axiom ' crates --include='*.antt' --exclude-dir=out && fail "an axiom"
 
 # The libraries whose calls a user makes. Their entry points are what lib.rt declares as `pub fn` or hands on by `pub use`: of a module of its
 # own, or of a library that stands here too. A call of a `pub mod` that lib.rt does not hand on is for the crates above, and may ask something.
@@ -18,9 +18,22 @@ entry() { # LIBRARY FILE CALL
   ! grep -q requires <<<"$contract" || fail "$3 of $1 has a requires"
   grep -q ensures <<<"$contract" || fail "$3 of $1 has no promise"
 }
+# What a file hands on, as lines `FROM CALL`: of `pub use FROM::{A, b, c};`, on one line or on several, the names that are no type's.
+handed_on() { # FILE
+  local from names name
+  tr '\n' ' ' <"$1" | grep -oE 'pub use [a-z_]+::(\{[^}]*\}|[A-Za-z_0-9]+);' | sed -E 's/^pub use ([a-z_]+)::(.*);$/\1 \2/; s/[{},]/ /g' |
+    while read -r from names; do
+      for name in $names; do
+        case $name in [a-z]*) echo "$from $name" ;; esac
+      done
+    done
+}
 for library in $libraries; do
   source=crates/$library/src
-  calls=$(sed -nE 's/^pub fn ([a-z_0-9]+).*/lib \1/p; s/^pub use ([a-z_]+)::([a-z_0-9]+);$/\1 \2/p' "$source/lib.rt")
+  calls=$(
+    sed -nE 's/^pub fn ([a-z_0-9]+).*/lib \1/p' "$source/lib.rt"
+    handed_on "$source/lib.rt"
+  )
   [ -n "$calls" ] || fail "$library has no entry point"
   while read -r from call; do
     if [ -f "$source/$from.rt" ]; then

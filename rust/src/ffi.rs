@@ -132,16 +132,12 @@ pub fn frame_send(framing: Framing, payload: &[u8], sequence: u16, slots: &mut [
 }
 
 pub fn frame_receive(framing: Framing, slots: &[u8], marks: &[u8], area: &mut [u8], map: &mut [u8]) -> Received {
-    let mut out = Received::default();
     let (bytes, size) = (slots.as_ptr(), slots.len());
     let (trust, trust_size) = (marks.as_ptr(), marks.len());
     let (lent, a) = (area.as_mut_ptr(), area.len());
     let (changed, changed_size) = (map.as_mut_ptr(), map.len());
-    // Sound: the result's place and four slices; the place and the two written slices overlap nothing.
-    unsafe {
-        header::yaxo_frame_receive(&mut out, framing, bytes, size, trust, trust_size, lent, a, changed, changed_size)
-    };
-    out
+    // Sound: four slices; the two that are written overlap nothing.
+    unsafe { header::yaxo_frame_receive(framing, bytes, size, trust, trust_size, lent, a, changed, changed_size) }
 }
 
 pub fn frame_is_clean(framing: Framing, slots: &[u8]) -> FrameClean {
@@ -157,23 +153,17 @@ pub fn hear_in(
     area: &mut [u8],
     map: &mut [u8],
 ) -> Received {
-    let mut out = Received::default();
     let (bytes, size) = (slots.as_ptr(), slots.len());
     let (trust, trust_size) = (marks.as_ptr(), marks.len());
     let (lent, a) = (area.as_mut_ptr(), area.len());
     let (changed, changed_size) = (map.as_mut_ptr(), map.len());
-    // Sound: the result's place, a record and four slices; what is written of them overlaps nothing.
-    unsafe {
-        header::yaxo_hear_in(&mut out, record, framing, bytes, size, trust, trust_size, lent, a, changed, changed_size)
-    };
-    out
+    // Sound: a record and four slices; what is written of them overlaps nothing.
+    unsafe { header::yaxo_hear_in(record, framing, bytes, size, trust, trust_size, lent, a, changed, changed_size) }
 }
 
 pub fn record_fresh() -> Record {
-    let mut out = Record::default();
-    // Sound: it takes nothing but the result's place.
-    unsafe { header::yaxo_record_fresh(&mut out) };
-    out
+    // Sound: it takes nothing.
+    unsafe { header::yaxo_record_fresh() }
 }
 
 pub fn record_standing(accepted: u8, last: u16, seen: u32, sequence: u16) -> u8 {
@@ -215,11 +205,9 @@ pub fn replay_in(
 }
 
 pub fn masts_receive(framing: Framing, first: &mut Heard, second: &mut Heard) -> Chosen {
-    let mut out = Chosen::default();
-    // Sound: the result's place and eight slices; the place and the four written slices overlap nothing.
+    // Sound: eight slices; the four that are written overlap nothing.
     unsafe {
         header::yaxo_masts_receive(
-            &mut out,
             framing,
             first.slots.as_ptr(),
             first.slots.len(),
@@ -238,16 +226,13 @@ pub fn masts_receive(framing: Framing, first: &mut Heard, second: &mut Heard) ->
             second.map.as_mut_ptr(),
             second.map.len(),
         )
-    };
-    out
+    }
 }
 
 pub fn masts_hear_in(record: &mut Record, framing: Framing, first: &mut Heard, second: &mut Heard) -> Chosen {
-    let mut out = Chosen::default();
-    // Sound: the result's place, a record and eight slices; what is written of them overlaps nothing.
+    // Sound: a record and eight slices; what is written of them overlaps nothing.
     unsafe {
         header::yaxo_masts_hear_in(
-            &mut out,
             record,
             framing,
             first.slots.as_ptr(),
@@ -267,8 +252,7 @@ pub fn masts_hear_in(record: &mut Record, framing: Framing, first: &mut Heard, s
             second.map.as_mut_ptr(),
             second.map.len(),
         )
-    };
-    out
+    }
 }
 
 pub fn cross_fresh_sender(memory: &mut [u8]) -> Ready {

@@ -6,7 +6,7 @@ use word::numbers::{encoded_number, figures_of, number_of};
 use word::{Decoded, Setting};
 
 // What the paper says of a received word: the number answered, with e, f and bits.
-#[derive(Drop)]
+#[derive(Clone, Copy)]
 pub struct Outcome {
     pub number: u8,
     pub errors: u16,
@@ -15,7 +15,7 @@ pub struct Outcome {
 }
 
 // How many symbols of a word, of its marks and of the room for its map a call is lent.
-#[derive(Drop)]
+#[derive(Clone, Copy)]
 pub struct Lent {
     pub word: usize,
     pub marks: usize,

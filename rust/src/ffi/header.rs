@@ -2,11 +2,6 @@
 //!
 //! Four calls of the header are left out, those that take and give a record by value: the face lends one.
 //!
-//! Five calls give more than 16 bytes (`record_fresh`, `frame_receive`, `hear_in`, `masts_receive`, `masts_hear_in`). On
-//! x86-64 C hands over the result's place as a hidden first argument. Here it is a plain first argument, which is the same
-//! call: the archive that `tools/native-archive` makes for another processor has it so too, where C's own rule would be
-//! another.
-//!
 //! A replay's results cross as what they are, numbers of 16 bits: `yaxo_result` is [`Place`](crate::replay::Place).
 
 /// `yaxo_figures`.
@@ -106,7 +101,7 @@ pub struct FrameClean {
 }
 
 /// `yaxo_record`.
-#[derive(Clone, Copy, Default)]
+#[derive(Clone, Copy)]
 #[repr(C)]
 pub struct Record {
     pub accepted: u8,
@@ -127,7 +122,6 @@ pub struct Replayed {
 }
 
 /// `yaxo_chosen`.
-#[derive(Default)]
 #[repr(C)]
 pub struct Chosen {
     pub mast: u8,
@@ -211,7 +205,6 @@ extern "C" {
         s: usize,
     ) -> u8;
     pub fn yaxo_frame_receive(
-        out: *mut Received,
         framing: Framing,
         slots: *const u8,
         s: usize,
@@ -221,10 +214,9 @@ extern "C" {
         a: usize,
         map: *mut u8,
         map_s: usize,
-    );
+    ) -> Received;
     pub fn yaxo_frame_is_clean(framing: Framing, slots: *const u8, s: usize) -> FrameClean;
     pub fn yaxo_hear_in(
-        out: *mut Received,
         record: *mut Record,
         framing: Framing,
         slots: *const u8,
@@ -235,8 +227,8 @@ extern "C" {
         a: usize,
         map: *mut u8,
         map_s: usize,
-    );
-    pub fn yaxo_record_fresh(out: *mut Record);
+    ) -> Received;
+    pub fn yaxo_record_fresh() -> Record;
     pub fn yaxo_record_standing(accepted: u8, last: u16, seen: u32, sequence: u16) -> u8;
     pub fn yaxo_record_unseen(seen: u32) -> u32;
     pub fn yaxo_record_note_in(record: *mut Record, answer: u8, sequence: u16);
@@ -255,7 +247,6 @@ extern "C" {
         numbers: usize,
     ) -> Replayed;
     pub fn yaxo_masts_receive(
-        out: *mut Chosen,
         framing: Framing,
         first_slots: *const u8,
         first_s: usize,
@@ -273,9 +264,8 @@ extern "C" {
         second_a: usize,
         second_map: *mut u8,
         second_map_s: usize,
-    );
+    ) -> Chosen;
     pub fn yaxo_masts_hear_in(
-        out: *mut Chosen,
         record: *mut Record,
         framing: Framing,
         first_slots: *const u8,
@@ -294,7 +284,7 @@ extern "C" {
         second_a: usize,
         second_map: *mut u8,
         second_map_s: usize,
-    );
+    ) -> Chosen;
     pub fn yaxo_cross_fresh_sender(memory: *mut u8, size: usize) -> Ready;
     pub fn yaxo_cross_fresh_receiver(memory: *mut u8, size: usize, held: *mut u8, h: usize) -> Ready;
     pub fn yaxo_cross_send(
