@@ -1,5 +1,5 @@
 -- Demand 3: what is sent over a block frame or a delay line and damaged within the bound comes back as sent. Each sentence of the demand is a
--- statement here; Proved.antt proves them. They speak of the promises of the calls below, and of no code.
+-- statement here; proofs/Proved.antt proves them. They speak of the promises of the calls below, and of no code.
 -- Assumes nothing.
 use Rattle.std.specs.Prelude.{◌≡◌, List, [], ℕ, ◌+◌, ◌-◌, ◌*◌, ◌≤◌, ◌<◌, length, get_or, T}
 use Rattle.word.specs.Map.{changes}

@@ -6,15 +6,4 @@ pub mod Masts
 pub mod Replay
 pub mod Line
 pub mod Coverage
-pub mod Places
-pub mod RunsCovered
-pub mod Words
-pub mod FrameBack
-pub mod FramesBack
-pub mod MastsBack
-pub mod ReplayBack
-pub mod LineCalls
-pub mod LineBack
 pub mod CrossBack
-pub mod Proved
-pub mod Worked

@@ -127,7 +127,7 @@ pub record Accepted (message : List ℕ) (d : Decoded) (given : List ℕ) : Type
 -- and it is so by every answer that meets the promise of `decode`, whose word begins with the message, or that of `decode_part` into any k bytes,
 -- with any map of n marks
 pub record WordComesBack (l : LineSetting) (message received marks : List ℕ) : Type 0 where
-  pub in_place : (Lent-map : List ℕ) → length Lent-map ≡ l.n → (d : Decoded) (word map : List ℕ) → Decodes (code_of l) received marks Lent-map d word map
+  pub in_place : (lent_map : List ℕ) → length lent_map ≡ l.n → (d : Decoded) (word map : List ℕ) → Decodes (code_of l) received marks lent_map d word map
       → Accepted message d (take (message_size (code_of l)) word)
-  pub to_part : (Lent-map : List ℕ) → length Lent-map ≡ l.n → (d : Decoded) (lent part map : List ℕ) → length lent ≡ message_size (code_of l)
-      → DecodesPart (code_of l) received marks lent Lent-map d part map → Accepted message d part
+  pub to_part : (lent_map : List ℕ) → length lent_map ≡ l.n → (d : Decoded) (lent part map : List ℕ) → length lent ≡ message_size (code_of l)
+      → DecodesPart (code_of l) received marks lent lent_map d part map → Accepted message d part

@@ -15,7 +15,7 @@ use Rattle.link.specs.declared.choice.Mast.{Mast}
 use Rattle.link.specs.declared.choice.Mast.TheVariants.{First, Second}
 use Rattle.coverage.specs.Each.{each_chain, each_once}
 use Rattle.coverage.specs.Frame.{Message, Answer}
-use Rattle.coverage.specs.FrameBack.{answered_in, frame_comes_back}
+use Rattle.coverage.proofs.FrameBack.{answered_in, frame_comes_back}
 use Rattle.coverage.specs.Masts.{frame_of, CopyArrives, Alone, Refused, Returned, Copies, MastsArrive, MastsAnswer, MastsAnswers, MastsBack}
 use Rattle.coverage.specs.Coverage.{TwoMastsComeBack, TwoMastsNoted, NoTwoMastsAlike, RefusedTakesNothing}
 

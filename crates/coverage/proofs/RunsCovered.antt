@@ -17,7 +17,7 @@ use Rattle.coverage.specs.Channel.{Layout, word_of, AllWithin, half, OneRun, Som
 use Rattle.coverage.specs.Frame.{in_frame, in_frames}
 use Rattle.coverage.specs.Line.{on_line}
 use Rattle.coverage.specs.Coverage.{FrameRunWithin, LineRunWithin, LineRunsWithin, FrameMarkedRunsWithin, LineMarkedRunsWithin}
-use Rattle.coverage.specs.Places.{block_spaced, block_near, line_spaced, line_near}
+use Rattle.coverage.proofs.Places.{block_spaced, block_near, line_spaced, line_near}
 
 -- ---- a word of slots that runs have struck
 

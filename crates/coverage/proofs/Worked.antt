@@ -28,8 +28,8 @@ use Rattle.coverage.specs.Frame.{Message, FrameSent, in_frame, in_frames, Frame,
 use Rattle.link.specs.Masts.{copy_of}
 use Rattle.coverage.specs.Masts.{Refused, Copies, MastsArrive}
 use Rattle.coverage.specs.Line.{LineSetting, code_of, LineAllowed, WordSent, fed, LineSent, slot_of, on_line, LineArrives}
-use Rattle.coverage.specs.RunsCovered.{line_run_within}
-use Rattle.coverage.specs.LineBack.{line_sent}
+use Rattle.coverage.proofs.RunsCovered.{line_run_within}
+use Rattle.coverage.proofs.LineBack.{line_sent}
 
 -- ---- a run, tested slot by slot
 

@@ -11,9 +11,9 @@ use Rattle.coverage.specs.Channel.{Channel, end_to_end}
 use Rattle.coverage.specs.Frame.{Message, FrameSent, Frame, Arrives, StreamArrives, frames_of, Answers, ComesBack}
 use Rattle.coverage.specs.Coverage.{FramesComeBack, FramesRunComeBack, NoTwoFramesAlike}
 use Rattle.coverage.specs.Each.{Each, each_length, each_entry, each_tabulate, each_chain, each_once}
-use Rattle.coverage.specs.RunsCovered.{frames_run_within}
-use Rattle.coverage.specs.Words.{picked}
-use Rattle.coverage.specs.FrameBack.{slots_size, some_answer, frame_comes_back}
+use Rattle.coverage.proofs.RunsCovered.{frames_run_within}
+use Rattle.coverage.proofs.Words.{picked}
+use Rattle.coverage.proofs.FrameBack.{slots_size, some_answer, frame_comes_back}
 
 pub frames_come_back : FramesComeBack
 frames_come_back f ok = each_chain (Arrives f) (Answers f) ComesBack (frame_comes_back f ok)

@@ -21,7 +21,7 @@ use Rattle.link.specs.Replay.Each.{FrameHeard, EachHeard, each_heard}
 use Rattle.coverage.specs.Frame.{Message, Arrives, Answer, ComesBack}
 use Rattle.coverage.specs.Replay.{frame_at, Called, after, ComesBackAt}
 use Rattle.coverage.specs.Coverage.{ReplayComesBack}
-use Rattle.coverage.specs.FrameBack.{frame_comes_back}
+use Rattle.coverage.proofs.FrameBack.{frame_comes_back}
 
 -- only an accepted frame's number is 0
 done : (v : Verdict) → number_of v ≡ 0 → is_done v ≡ true

@@ -31,7 +31,7 @@ use Rattle.frame.specs.declared.setting.Verdict.TheVariants.{Done}
 use Rattle.coverage.specs.Channel.{word_of}
 use Rattle.coverage.specs.Frame.{Message, Fits, FrameSent, in_frame, Frame, Arrives, Answer, Answers, ComesBack}
 use Rattle.coverage.specs.Coverage.{FrameComesBack, FrameMapTells}
-use Rattle.coverage.specs.Words.{picked, Came, came_in, word_corrected, encoded_code, encoded_size, encoded_message}
+use Rattle.coverage.proofs.Words.{picked, Came, came_in, word_corrected, encoded_code, encoded_size, encoded_message}
 
 -- ---- the parts of a list, joined again
 

@@ -22,9 +22,9 @@ use Rattle.coverage.specs.Channel.{Channel, end_to_end, word_of}
 use Rattle.coverage.specs.Line.{LineSetting, code_of, LineAllowed, delay, WordSent, fed, SenderCalls, LineSent, slot_of, on_line, LineArrives, LineReceived, leaving}
 use Rattle.coverage.specs.Coverage.{LineComesBack, NoTwoLinesAlike}
 use Rattle.coverage.specs.Each.{each_length, each_entry}
-use Rattle.coverage.specs.Places.{line_place, line_found}
-use Rattle.coverage.specs.LineCalls.{sender_calls, receiver_calls}
-use Rattle.coverage.specs.Words.{picked, Came, came_in, encoded_code, encoded_message, word_once, word_decoded, part_decoded}
+use Rattle.coverage.proofs.Places.{line_place, line_found}
+use Rattle.coverage.proofs.LineCalls.{sender_calls, receiver_calls}
+use Rattle.coverage.proofs.Words.{picked, Came, came_in, encoded_code, encoded_message, word_once, word_decoded, part_decoded}
 
 module _ (l : LineSetting) (ok : LineAllowed l) where
   abbrev I : ℕ
@@ -147,8 +147,8 @@ line_comes_back l ok messages slots marks bytes flags a r w h =
     let c = word_came l ok messages slots marks a w h in
     let begins = word_begins l ok messages slots marks a w h in
     rw (b, k) (record {
-      in_place = λ Lent-map size d word map e. let (x, y) = word_decoded (code_of l) ok.code _ _ _ c Lent-map size d word map e in record { number = x; as_sent = ap (take (message_size (code_of l))) y ∙ begins };
-      to_part = λ Lent-map size d lent part map n e. let (x, y) = part_decoded (code_of l) ok.code _ _ _ c Lent-map size d lent part map n e in record { number = x; as_sent = y ∙ begins };
+      in_place = λ lent_map size d word map e. let (x, y) = word_decoded (code_of l) ok.code _ _ _ c lent_map size d word map e in record { number = x; as_sent = ap (take (message_size (code_of l))) y ∙ begins };
+      to_part = λ lent_map size d lent part map n e. let (x, y) = part_decoded (code_of l) ok.code _ _ _ c lent_map size d lent part map n e in record { number = x; as_sent = y ∙ begins };
     })
 
 -- ---- no two alike: the codewords of both lists are near what came, so they are the same, and so are the messages they begin with

@@ -77,19 +77,19 @@ module _ (s : Setting) (ok : T (allowed s)) (marks came : List ℕ) where
     checks : Checked s marks came
     checks = record { setting = ok; size = c.size; marks_size = c.marks_size; small = c.bytes; marks_small = c.zero_or_one }
 
-    module _ (Lent-map : List ℕ) (n : length Lent-map ≡ s.n) where
+    module _ (lent_map : List ℕ) (n : length lent_map ≡ s.n) where
       -- every answer that meets the promise of `decode` is Done, and leaves the codeword that was sent
-      pub word_decoded : (d : Decoded) (word map : List ℕ) → Decodes s came marks Lent-map d word map → (number_of d ≡ 0) × (word ≡ sent)
+      pub word_decoded : (d : Decoded) (word map : List ℕ) → Decodes s came marks lent_map d word map → (number_of d ≡ 0) × (word ≡ sent)
       word_decoded d word map p =
-          let (x, y, _) = decodes_once p (decode_found s came marks Lent-map n checks sent (figures marks came sent) (changes came sent) word_corrected refl refl) in
+          let (x, y, _) = decodes_once p (decode_found s came marks lent_map n checks sent (figures marks came sent) (changes came sent) word_corrected refl refl) in
           (ap number_of x, y)
 
       -- what `decode_part` promises of it
-      pub part_given : (lent : List ℕ) → length lent ≡ message_size s → DecodesPart s came marks lent Lent-map (Done (figures marks came sent)) (take (message_size s) sent) (changes came sent)
-      part_given lent k = part_found s came marks lent Lent-map k n checks sent (figures marks came sent) (changes came sent) word_corrected refl refl
+      pub part_given : (lent : List ℕ) → length lent ≡ message_size s → DecodesPart s came marks lent lent_map (Done (figures marks came sent)) (take (message_size s) sent) (changes came sent)
+      part_given lent k = part_found s came marks lent lent_map k n checks sent (figures marks came sent) (changes came sent) word_corrected refl refl
 
       -- and every one that meets that of `decode_part` is Done, and leaves its message
-      pub part_decoded : (d : Decoded) (lent part map : List ℕ) → length lent ≡ message_size s → DecodesPart s came marks lent Lent-map d part map → (number_of d ≡ 0) × (part ≡ take (message_size s) sent)
+      pub part_decoded : (d : Decoded) (lent part map : List ℕ) → length lent ≡ message_size s → DecodesPart s came marks lent lent_map d part map → (number_of d ≡ 0) × (part ≡ take (message_size s) sent)
       part_decoded d lent part map k p =
           let (x, y, _) = decodes_part_once p (part_given lent k) in
           (ap number_of x, y)

@@ -1,0 +1,12 @@
+pub mod Places
+pub mod RunsCovered
+pub mod Words
+pub mod FrameBack
+pub mod FramesBack
+pub mod MastsBack
+pub mod ReplayBack
+pub mod LineCalls
+pub mod LineBack
+pub mod CrossBack
+pub mod Proved
+pub mod Worked
