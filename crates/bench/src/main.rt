@@ -23,7 +23,6 @@ fn read_input(input: &mut [u8]) -> usize
     4 + io::read_full(STDIN, &mut input[4..end])
 }
 
-#[tactic(auto, using(reader::specs::Promises::reports_within))]
 fn main() {
     let mut input = io::buffer();
     let mut text = [0u8; 30000];
