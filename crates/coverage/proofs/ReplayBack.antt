@@ -17,7 +17,8 @@ use Rattle.link.specs.Receiver.{HearOutcome, hearing}
 use Rattle.link.specs.Replay.{frames_in, result_of}
 use Rattle.link.specs.Replay.Checks.{ReplayChecked, frames_counted, lies}
 use Rattle.link.specs.Replay.Turns.{part_size}
-use Rattle.link.specs.Replay.Each.{FrameHeard, EachHeard, each_heard}
+use Rattle.link.specs.Replay.Each.{FrameHeard, EachHeard}
+use Rattle.link.proofs.Each.{each_heard}
 use Rattle.coverage.specs.Frame.{Message, Arrives, Answer, ComesBack}
 use Rattle.coverage.specs.Replay.{frame_at, Called, after, ComesBackAt}
 use Rattle.coverage.specs.Coverage.{ReplayComesBack}
