@@ -7,7 +7,7 @@ use Rattle.std.proofs.lemmas.List.{length-replicate}
 use Rattle.algebra.specs.Tests.{at}
 use Rattle.algebra.specs.Lists.{tabulate}
 use Rattle.algebra.specs.Register.{generator, generator_length, fed}
-use Rattle.field.specs.Elements.{K}
+use Rattle.field.proofs.Elements.{K}
 use Rattle.checks.specs.Roots.{root}
 use Rattle.checks.specs.Checks.{divisor, Checks, Dividing, dividing_none, dividing_more, dividing_all}
 use Rattle.algebra.specs.Bytes.{byte, whole, bytes}

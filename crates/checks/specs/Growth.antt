@@ -11,8 +11,9 @@ use Rattle.algebra.specs.Ring.{mul_comm, mul_assoc}
 use Rattle.algebra.specs.Horner.{pow}
 use Rattle.algebra.specs.Register.{sweep, sweep_at, sweep_length}
 use Rattle.algebra.specs.Bytes.{byte, byte_xor, whole, bytes, bytes_at, bytes_length}
-use Rattle.field.specs.Elements.{wide, K, prod}
-use Rattle.field.specs.Doubles.{pow_below}
+use Rattle.field.specs.Elements.{wide, prod}
+use Rattle.field.proofs.Elements.{K}
+use Rattle.field.proofs.Doubles.{pow_below}
 use Rattle.packed.specs.Moves.{Down}
 use Rattle.packed.specs.Factors.{Factored, Scaled, comb_prod}
 use Rattle.checks.specs.Roots.{root, root_next}

@@ -11,7 +11,8 @@ use Rattle.algebra.specs.Lists.{Filled}
 use Rattle.algebra.specs.Ring.{Z-trans, Z-other}
 use Rattle.algebra.specs.Peel.{Rep}
 use Rattle.algebra.specs.Horner.{horner, horner_append, horner_add, horner_none, Added, coef, syndromes}
-use Rattle.field.specs.Elements.{wide, K}
+use Rattle.field.specs.Elements.{wide}
+use Rattle.field.proofs.Elements.{K}
 use Rattle.checks.specs.Roots.{root, spots}
 use Rattle.checks.specs.Checks.{Checks}
 use Rattle.checks.specs.Syndromes.{Syndromes}

@@ -12,7 +12,7 @@ use Rattle.std.proofs.Math.Seq.{ext_get_or}
 use Rattle.algebra.specs.Tests.{at}
 use Rattle.algebra.specs.Xor.{xor_assoc}
 use Rattle.algebra.specs.Register.{fed, fed_at, fed_length}
-use Rattle.field.specs.Elements.{K}
+use Rattle.field.proofs.Elements.{K}
 use Rattle.algebra.specs.Slices.{after, row, after_ext, after_one, after_four, row_add}
 use Rattle.algebra.specs.Bytes.{byte, byte_xor, byte_moved, whole, bytes, bytes_length, bytes_at}
 

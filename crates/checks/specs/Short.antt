@@ -9,7 +9,8 @@ use Rattle.algebra.specs.Tests.{at}
 use Rattle.algebra.specs.Ring.{mul-zero}
 use Rattle.algebra.specs.Register.{generator, generator_length, behind}
 use Rattle.algebra.specs.Bytes.{byte, byte_zero, byte_none, whole, whole_low, bytes, bytes_at, bytes_length}
-use Rattle.field.specs.Elements.{wide, K}
+use Rattle.field.specs.Elements.{wide}
+use Rattle.field.proofs.Elements.{K}
 use Rattle.packed.specs.Combs.{comb_none}
 use Rattle.packed.specs.Doubles.{Doubled, doubled_pair}
 use Rattle.checks.specs.Roots.{root}

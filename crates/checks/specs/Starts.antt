@@ -10,8 +10,9 @@ use Rattle.algebra.specs.Horner.{pow}
 use Rattle.algebra.specs.Register.{grow, generator, behind}
 use Rattle.algebra.specs.Slices.{row}
 use Rattle.algebra.specs.Bytes.{byte, byte_zero, whole, Holds}
-use Rattle.field.specs.Elements.{wide, K, prod, prod_below, prod_one}
-use Rattle.field.specs.Doubles.{pow_two, prod_high}
+use Rattle.field.specs.Elements.{wide, prod}
+use Rattle.field.proofs.Elements.{K, prod_below, prod_one}
+use Rattle.field.proofs.Doubles.{pow_two, prod_high}
 use Rattle.packed.specs.Doubles.{DoubledPair}
 use Rattle.checks.specs.Roots.{root}
 use Rattle.checks.specs.Checks.{divisor}

@@ -10,7 +10,7 @@ use Rattle.algebra.specs.Tests.{at}
 use Rattle.algebra.specs.Xor.{◌⊕◌, up}
 use Rattle.field.specs.Field.{only}
 use Rattle.field.specs.Products.{Linear, agree}
-use Rattle.field.specs.Elements.{K}
+use Rattle.field.proofs.Elements.{K}
 use Rattle.algebra.specs.Slices.{row, after_ext, row_add}
 use Rattle.algebra.specs.Bytes.{byte, byte_xor, byte_zero, whole, whole_xor}
 use Rattle.packed.specs.Combs.{comb, comb_linear, comb_term, comb_map}

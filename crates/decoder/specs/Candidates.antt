@@ -14,7 +14,8 @@ use Rattle.algebra.specs.Tests.{at}
 use Rattle.algebra.specs.Lists.{Filled, filled_more}
 use Rattle.algebra.specs.Horner.{pow}
 use Rattle.algebra.specs.Polynomials.{ev, ev_ext}
-use Rattle.field.specs.Elements.{wide, K, prod}
+use Rattle.field.specs.Elements.{wide, prod}
+use Rattle.field.proofs.Elements.{K}
 use Rattle.decoder.specs.Places.{locator, Locators}
 use Rattle.checks.specs.Syndromes.{lane_after}
 

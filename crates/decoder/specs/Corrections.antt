@@ -14,7 +14,8 @@ use Rattle.algebra.specs.Peel.{Places, Rep, Rep-add, Rep-same, Rep-one, pw, pw_z
 use Rattle.algebra.specs.Horner.{pow, coef}
 use Rattle.field.specs.Field.{modulus}
 use Rattle.field.specs.Products.{product_one, product_below}
-use Rattle.field.specs.Elements.{K, wide, prod, known, one_below, two_below, prod_small}
+use Rattle.field.specs.Elements.{wide, prod, one_below, two_below, prod_small}
+use Rattle.field.proofs.Elements.{K, known}
 use Rattle.checks.specs.Roots.{spots}
 use Rattle.decoder.specs.Places.{locator, spare}
 use Rattle.decoder.specs.Peeling.{peeled_of, distance_of}

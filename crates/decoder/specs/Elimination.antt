@@ -9,7 +9,8 @@ use Rattle.algebra.specs.Sets.{count, count_all, count_pos, count_drop}
 use Rattle.algebra.specs.Tests.{at, each, each_at, below, below_at}
 use Rattle.algebra.specs.Lists.{Filled}
 use Rattle.algebra.specs.Kernel.{Fine, Fine-unit, Fine-keep, Fine-comb, Fine-ext, Fine-same, comb, dot_ext}
-use Rattle.field.specs.Elements.{K, wide, known, one_below}
+use Rattle.field.specs.Elements.{wide, one_below}
+use Rattle.field.proofs.Elements.{K, known}
 use Rattle.decoder.specs.Rows.{row, row_dot, Combined}
 
 -- the vector s has degree s, and is orthogonal to the windows of sums below j

@@ -11,7 +11,8 @@ use Rattle.algebra.specs.Ring.{mul_comm}
 use Rattle.algebra.specs.Tests.{at}
 use Rattle.algebra.specs.Sets.{count, one_yes, one_no}
 use Rattle.algebra.specs.Peel.{peel, peels, peels_zero, peels_yes, peels_no, far, far_zero, far_yes, far_no}
-use Rattle.field.specs.Elements.{K, prod}
+use Rattle.field.specs.Elements.{prod}
+use Rattle.field.proofs.Elements.{K}
 use Rattle.field.specs.Lanes.{Products, scaled_left}
 use Rattle.decoder.specs.Places.{locator, spare}
 

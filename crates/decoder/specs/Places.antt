@@ -6,7 +6,7 @@ use Rattle.std.proofs.Math.Logic.Dec
 use Rattle.std.proofs.Math.Decide.{ℕ_discrete, dec_lt}
 use Rattle.algebra.specs.Tests.{at}
 use Rattle.algebra.specs.Horner.{pow}
-use Rattle.field.specs.Elements.{K}
+use Rattle.field.proofs.Elements.{K}
 
 -- the locator of the coefficient k
 abbrev pub locator : ℕ → ℕ → ℕ

@@ -9,7 +9,8 @@ use Rattle.algebra.specs.Tests.{at}
 use Rattle.algebra.specs.Lists.{Filled}
 use Rattle.algebra.specs.Xor.{xor_assoc}
 use Rattle.algebra.specs.Kernel.{dot, dot_zero, dot_suc, dot_ext}
-use Rattle.field.specs.Elements.{K, prod}
+use Rattle.field.specs.Elements.{prod}
+use Rattle.field.proofs.Elements.{K}
 use Rattle.field.specs.Lanes.{Products, scaled_left}
 
 -- the numbers of v from b on

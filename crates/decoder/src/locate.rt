@@ -3,7 +3,7 @@ ghost use Rattle.std.specs.Prelude.{◌≡◌, ◌≤◌, length};
 ghost use Rattle.algebra.specs.Tests.{at};
 ghost use Rattle.algebra.specs.Lists.{Filled};
 ghost use Rattle.algebra.specs.Polynomials.{ev};
-ghost use Rattle.field.specs.Elements.{K};
+ghost use Rattle.field.proofs.Elements.{K};
 ghost use Rattle.decoder.specs.Places.{Locators};
 ghost use Rattle.decoder.specs.Candidates.{flag_of, raised_at, Candidates};
 

@@ -10,7 +10,8 @@ use borrow.Author.Tests.{not-true, not-false, ltb-true}
 use Rattle.field.specs.Field.{mul, a^}
 use Rattle.field.specs.Elements.{wide, prod}
 use Rattle.field.specs.Answers.{done, is_field, is_element, product_of, power_of, inverse_of}
-use Rattle.field.specs.Once.{wide_field, inverse_is}
+use Rattle.field.specs.Once.{wide_field}
+use Rattle.field.proofs.Once.{inverse_is}
 
 -- a test that the code asks by `!`
 pub failed : {b t : Bool} → b ≡ t → not b ≡ true → t ≡ false

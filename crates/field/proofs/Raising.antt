@@ -7,7 +7,8 @@ use lib.Pow.{pow_pos}
 use Rattle.field.specs.Field.{modulus, mul}
 use Rattle.field.specs.Raised.{raised, raised_one, raised_below, raised_add, raised_mul}
 use Rattle.field.specs.Powers.{raised_inverse}
-use Rattle.field.specs.Elements.{wide, known, prod}
+use Rattle.field.specs.Elements.{wide, prod}
+use Rattle.field.proofs.Elements.{known}
 
 module _ (m x : ℕ) where
   open (known m).rules use {degree, room}

@@ -10,7 +10,8 @@ use lib.Pow.{pow_pos}
 use Rattle.algebra.specs.Xor.{◌⊕◌, on_bit, zero_l, zero_r, assoc}
 use Rattle.field.specs.Field.{only, modulus, mul}
 use Rattle.field.specs.Products.{product_step, product_below, product_zero_l}
-use Rattle.field.specs.Elements.{wide, known, two_below, prod}
+use Rattle.field.specs.Elements.{wide, two_below, prod}
+use Rattle.field.proofs.Elements.{known}
 
 bit_mul : (a b : ℕ) → a % 2 * b ≡ only (a % 2) b
 bit_mul a b = on_bit (λ (d : ℕ). d * b ≡ only d b) (zero-mul b) (one-mul b) a

@@ -1,24 +1,20 @@
 -- The field that m names, as the one structure that the theory of the word code stands on: algebra's `Ring`, on all numbers.
 -- A number other than 3 stands for 8 here, so that nothing below the settings' own check has to ask what m is.
 -- Assumes nothing.
-use Rattle.std.specs.Prelude.{◌≡◌, ◌≢◌, Bool, true, false, List, eqb}
-use Rattle.std.proofs.Math.Path.{refl, ap₂}
+use Rattle.std.specs.Prelude.{◌≡◌, ◌≢◌, List, eqb}
+use Rattle.std.proofs.Math.Path.{ap₂}
 use Rattle.std.proofs.Common.{sym, ap, ◌∙◌, arith, eq-eqb, ne_eqb}
-use Prim.Native.Nat.{ℕ, zero, suc, ◌-◌, ◌%◌, ◌^◌, ◌<◌}
+use Prim.Native.Nat.{ℕ, ◌-◌, ◌%◌, ◌^◌, ◌<◌}
 use Rattle.std.proofs.Math.Nat.{mod-eq_of_lt}
 use Rattle.std.specs.Int.Bits.{bit_xor}
 use Rattle.std.proofs.Math.Pow.{pow-lt}
-use Rattle.algebra.specs.Xor.{◌⊕◌, same_below}
+use Rattle.algebra.specs.Xor.{◌⊕◌}
 use Rattle.algebra.specs.Tests.{if◌then◌else◌}
-use Rattle.algebra.specs.Ring.{Ring}
-use Rattle.algebra.specs.Horner.{pow}
-use Rattle.algebra.specs.Numbers.{Field, lift, rest_below}
-use Rattle.field.specs.Field.{power, modulus, mul, a^}
+use Rattle.algebra.specs.Numbers.{Field}
+use Rattle.field.specs.Field.{modulus, mul}
 use Rattle.field.specs.Products.{product_one, product_below, product_assoc, product_comm, product_right}
 use Rattle.field.specs.Raised.{raised, raised_below}
-use Rattle.field.specs.Powers.{Rules, a_below, power_below, power_not_one, raised_inverse}
-use Rattle.field.specs.Gf3.{powers3, rules3}
-use Rattle.field.specs.Gf8.{powers8, rules8}
+use Rattle.field.specs.Powers.{Rules, a_below, raised_inverse}
 
 -- the width of the field that m names: 3, or else 8
 unfoldable pub wide : ℕ → ℕ
@@ -36,15 +32,6 @@ wide_8 m ne = rw (ne_eqb m 3 ne)
 pub record Known (m : ℕ) : Type 0 where
   pub powers : List ℕ
   pub rules : Rules m (modulus m) powers
-
--- those of the two fields, by whether m is 3
-tables : (three : Bool) → Known (if three then 3 else 8)
-tables true = record { powers = powers3; rules = rules3 }
-tables false = record { powers = powers8; rules = rules8 }
-
-pub known : (m : ℕ) → Known (wide m)
-unfolding wide
-known m = tables (eqb m 3)
 
 module _ (m : ℕ) (t : Known m) where
   open t use {rules}
@@ -92,10 +79,6 @@ module _ (m : ℕ) (t : Known m) where
     mul-one = λ x a. product_comm m (modulus m) x 1 a one_below ∙ product_one m (modulus m) x (omega (arith, rules.room)) a;
   }
 
--- the ring of the field that m names
-abbrev pub K : ℕ → Ring
-K m = lift (wide m) (numbers (wide m) (known m))
-
 -- its product on all numbers: of the two remainders by 2^m
 abbrev pub prod : ℕ → ℕ → ℕ → ℕ
 prod m x y = mul (wide m) (x % 2 ^ wide m) (y % 2 ^ wide m)
@@ -103,27 +86,3 @@ prod m x y = mul (wide m) (x % 2 ^ wide m) (y % 2 ^ wide m)
 module _ (m : ℕ) where
   pub prod_small : (x y : ℕ) → x < 2 ^ wide m → y < 2 ^ wide m → prod m x y ≡ mul (wide m) x y
   prod_small x y a b = ap₂ (mul (wide m)) (mod-eq_of_lt a) (mod-eq_of_lt b)
-
-  -- a product is an element, and 1 is the one of all elements
-  pub prod_below : (x y : ℕ) → prod m x y < 2 ^ wide m
-  prod_below x y = let f = numbers (wide m) (known m) in f.mul_lt _ _ (rest_below (wide m) f x) (rest_below (wide m) f y)
-
-  pub prod_one : (x : ℕ) → x < 2 ^ wide m → prod m x 1 ≡ x
-  prod_one x h = prod_small x 1 h (one_below (wide m) (known m)) ∙ (numbers (wide m) (known m)).mul-one x h
-
-  -- the theory's powers of 2 are those of a
-  pub pow_power : (k : ℕ) → pow (K m) 2 k ≡ a^ (wide m) k
-  unfolding pow power
-  pow_power zero = refl
-  pow_power (suc k) =
-      ap₂ (mul (wide m)) (mod-eq_of_lt (two_below (wide m) (known m))) (ap (λ (z : ℕ). z % 2 ^ wide m) (pow_power k) ∙ mod-eq_of_lt (power_below (known m).rules k))
-
-  pub two_nz : 2 % 2 ^ wide m ≢ 0
-  two_nz e = omega (arith, e, mod-eq_of_lt (two_below (wide m) (known m)))
-
-  -- a has the order 2^m - 1
-  pub order : (n : ℕ) → n < 2 ^ wide m → (d : ℕ) → 0 < d → d < n → bit_xor (pow (K m) 2 d) 1 % 2 ^ wide m ≢ 0
-  unfolding power
-  order n h d a b z =
-      power_not_one (known m).rules d a (omega arith)
-      (same_below (wide m) (a^ (wide m) d) 1 (power_below (known m).rules d) (one_below (wide m) (known m)) (rw (← pow_power d) z))

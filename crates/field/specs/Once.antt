@@ -1,15 +1,15 @@
 -- What the promises of the calls settle: none has a second answer, and the inverse is the one number that it can be.
 -- Assumes nothing.
 use Rattle.std.specs.Prelude.{◌≡◌, refl, true, ℕ, ◌^◌, ◌<◌}
-use Rattle.std.proofs.Common.{sym, ap, ◌∙◌, subst, arith}
+use Rattle.std.proofs.Common.{sym, ap, ◌∙◌}
 use Rattle.std.proofs.Math.Decide.{ℕ_discrete}
-use borrow.Author.Tests.{eqb-true, eq-eqb, ne_eqb, lt-ltb}
+use borrow.Author.Tests.{eqb-true, ne_eqb}
 use Rattle.std.proofs.Math.Dec.{eqb}
 use Rattle.algebra.specs.Xor.{◌⊕◌}
-use Rattle.algebra.specs.Tests.{if◌then◌else◌, first_is}
+use Rattle.algebra.specs.Tests.{if◌then◌else◌}
 use Rattle.field.specs.Field.{mul}
-use Rattle.field.specs.Elements.{wide, wide_3, wide_8, Known, known, inverse, inverse_below, inverse_one, undo}
-use Rattle.field.specs.Answers.{ElementOutcome, element_outcome, done, is_field, is_element, product_of, power_of, inverse_of}
+use Rattle.field.specs.Elements.{wide, wide_3, wide_8}
+use Rattle.field.specs.Answers.{ElementOutcome, element_outcome, done, is_field, product_of, power_of, inverse_of}
 use Rattle.field.specs.declared.Element.{Element}
 use Rattle.field.specs.declared.Element.TheVariants.{Is, BadField, BadSymbol}
 
@@ -50,20 +50,6 @@ wide_field m h = elim (ℕ_discrete m 3) [
   | no ne ↦ wide_8 m ne ∙ sym (eqb-true m 8 (rw (ne_eqb m 3 ne) at h))
 ]
 
-module _ (m x : ℕ) (field : is_field m ≡ true) (some : 0 < x) (small : x < 2 ^ m) where
-  ours : Known m
-  ours = subst Known (wide_field m field) (known m)
-
-  pub one_inverse : (y z : ℕ) → y < 2 ^ m → z < 2 ^ m → mul m x y ≡ 1 → mul m x z ≡ 1 → y ≡ z
-  one_inverse y z a b p q =
-      sym (undo m ours x y small a (omega arith)) ∙ ap (mul m (inverse m ours x)) (p ∙ sym q) ∙ undo m ours x z small b (omega arith)
-
-  pub inverse_is : (y : ℕ) → y < 2 ^ m → mul m x y ≡ 1 → inverse_of m x ≡ done y
-  unfolding inverse_of is_element
-  inverse_is y l p =
-      simp (field, lt-ltb x (2 ^ m) small, ne_eqb x 0 (omega arith))
-      (ap done (first_is (2 ^ m) (λ z. eqb (mul m x z) 1) y l (λ z k. ne_eqb (mul m x z) 1 λ q. let e : z ≡ y = one_inverse z y (omega arith) l q p in omega arith) (eq-eqb (mul m x y) 1 p)))
-
 -- the answer is a number below 2^m whose product with x is 1, and no other number is that
 pub record Inverse (m x : ℕ) (o : ElementOutcome) : Type 0 where
   pub value : ℕ
@@ -71,17 +57,3 @@ pub record Inverse (m x : ℕ) (o : ElementOutcome) : Type 0 where
   pub below : value < 2 ^ m
   pub gives_one : mul m x value ≡ 1
   pub only : (z : ℕ) → z < 2 ^ m → mul m x z ≡ 1 → z ≡ value
-
--- where x is an element and not 0, the answer is its inverse
-pub inverse_means : (m x : ℕ) → is_field m ≡ true → 0 < x → x < 2 ^ m → Inverse m x (inverse_of m x)
-inverse_means m x field some small =
-    let y : ℕ = inverse m (ours m x field some small) x in
-    let l : y < 2 ^ m = inverse_below m (ours m x field some small) x in
-    let p : mul m x y ≡ 1 = inverse_one m (ours m x field some small) x some small in
-    record {
-      value = y;
-      answer = inverse_is m x field some small y l p;
-      below = l;
-      gives_one = p;
-      only = λ z k q. one_inverse m x field some small z y k l q p;
-    }

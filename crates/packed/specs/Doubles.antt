@@ -13,8 +13,10 @@ use Rattle.std.proofs.Math.Pow.{split}
 use Rattle.std.proofs.Math.Pow
 use Rattle.algebra.specs.Tests.{each, each_at}
 use Rattle.algebra.specs.Ring.{mul-zero}
-use Rattle.field.specs.Elements.{K, prod}
-use Rattle.field.specs.Doubles.{doubled_by, double_3, double_8}
+use Rattle.field.specs.Elements.{prod}
+use Rattle.field.proofs.Elements.{K}
+use Rattle.field.specs.Doubles.{doubled_by}
+use Rattle.field.proofs.Doubles.{double_3, double_8}
 use Rattle.algebra.specs.Bytes.{byte, byte_xor, byte_and, byte_below, byte_none, whole, whole_below, whole_low, whole_high, each_byte}
 
 -- ---- a product that carries nothing

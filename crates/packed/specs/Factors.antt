@@ -13,10 +13,12 @@ use Rattle.algebra.specs.Ring.{add-mul, mul_assoc, mul_comm}
 use Rattle.algebra.specs.Horner.{pow}
 use Rattle.field.specs.Field.{only}
 use Rattle.field.specs.Products.{Linear, agree}
-use Rattle.field.specs.Elements.{wide, K, prod, prod_one}
+use Rattle.field.specs.Elements.{wide, prod}
+use Rattle.field.proofs.Elements.{K, prod_one}
 use Rattle.algebra.specs.Bytes.{byte, byte_xor, byte_none, whole, whole_below, whole_low, whole_high, each_byte}
 use Rattle.packed.specs.Doubles.{masked, ones}
-use Rattle.field.specs.Doubles.{pow_two, wide_le}
+use Rattle.field.specs.Doubles.{wide_le}
+use Rattle.field.proofs.Doubles.{pow_two}
 use Rattle.packed.specs.Combs.{comb, comb_linear, comb_zero, comb_term}
 
 -- a bit of each byte, times c

@@ -8,7 +8,8 @@ use Rattle.algebra.specs.Horner.{horner}
 use Rattle.algebra.specs.Register.{checks, checks_length, checks_root, checks_in}
 use Rattle.field.specs.Field.{modulus}
 use Rattle.field.specs.Products.{product_below}
-use Rattle.field.specs.Elements.{wide, known, K}
+use Rattle.field.specs.Elements.{wide}
+use Rattle.field.proofs.Elements.{known, K}
 use Rattle.word.specs.Setting.{Allowed}
 use Rattle.checks.specs.Roots.{root}
 use Rattle.word.specs.Codeword.{is_codeword, Codeword, is_codeword_lem}

@@ -7,7 +7,7 @@ use Rattle.std.proofs.Math.Seq.{take-length, take-append_seam}
 use Rattle.algebra.specs.Tests.{at}
 use Rattle.algebra.specs.Peel.{Rep}
 use Rattle.algebra.specs.Horner.{coef}
-use Rattle.field.specs.Elements.{K}
+use Rattle.field.proofs.Elements.{K}
 use Rattle.checks.specs.Roots.{spots}
 use Rattle.checks.specs.Left.{left_sums}
 use Rattle.word.specs.Word.{errors, marked, bits}

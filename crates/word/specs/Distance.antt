@@ -19,7 +19,8 @@ use Rattle.algebra.specs.Horner.{pow, horner, coef, syndromes, places_apart}
 use Rattle.field.specs.Field.{mul, modulus, a^}
 use Rattle.field.specs.Products.{product_below}
 use Rattle.field.specs.Powers.{power_below}
-use Rattle.field.specs.Elements.{wide, known, K, pow_power, two_nz, order}
+use Rattle.field.specs.Elements.{wide}
+use Rattle.field.proofs.Elements.{known, K, pow_power, two_nz, order}
 use Rattle.word.specs.Setting.{Allowed, named}
 use Rattle.checks.specs.Roots.{spots}
 use Rattle.decoder.specs.Places.{flagged}

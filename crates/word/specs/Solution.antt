@@ -15,7 +15,8 @@ use Rattle.algebra.specs.Polynomials.{ev}
 use Rattle.algebra.specs.Peel.{Places, Rep, peels, peels_same, far, far_same, far_cancel}
 use Rattle.algebra.specs.Horner.{pow, horner, coef, syndromes}
 use Rattle.algebra.specs.Decoding.{Run, cand, others, cand_few, decoded}
-use Rattle.field.specs.Elements.{wide, K}
+use Rattle.field.specs.Elements.{wide}
+use Rattle.field.proofs.Elements.{K}
 use Rattle.word.specs.Setting.{Allowed, limits}
 use Rattle.checks.specs.Roots.{spots}
 use Rattle.decoder.specs.Places.{locator, flagged, spare}

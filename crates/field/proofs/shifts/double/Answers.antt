@@ -1,9 +1,10 @@
--- `field::shifts::double` meets its contract: the rule is tested at every byte, for each m (specs/Doubles.antt).
+-- `field::shifts::double` meets its contract: the rule is tested at every byte, for each m (proofs/Doubles.antt).
 use mathlib.Core.Path.{◌≡◌}
 use Prim.Native.Nat.{◌/◌, ◌%◌}
 use native.Mathlib.Omega.{arith}
 use borrow.Author.Rules.{rules}
-use Rattle.field.specs.Doubles.{doubled_by, double_3, double_8}
+use Rattle.field.specs.Doubles.{doubled_by}
+use Rattle.field.proofs.Doubles.{double_3, double_8}
 use Rattle.field.proofs.shifts.double.Goals as goal
 
 pub returns-then-m-eq3 : goal.returns-then-m-eq3
