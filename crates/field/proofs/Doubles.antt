@@ -1,10 +1,10 @@
 -- The product by a, which is 2: moved up by one place, and the polynomial's rest added where a term fell out. It is tested at every byte, for
 -- each m; and below the field's width the powers of a are those of the number 2.
 -- Assumes nothing.
-use Rattle.std.specs.Prelude.{◌≡◌, ◌≢◌, Bool, true, false, ℕ, zero, suc, ◌+◌, ◌-◌, ◌%◌, ◌^◌, ◌<◌, ◌≤◌, T, eqb}
+use Rattle.std.specs.Prelude.{◌≡◌, ◌≢◌, Bool, true, false, ℕ, zero, suc, ◌+◌, ◌-◌, ◌%◌, ◌^◌, ◌<◌, ◌≤◌, T, eqb, if◌then◌else◌}
 use Rattle.std.proofs.Common.{ap, ◌∙◌, arith, eqb→eq, pow-add}
 use Rattle.std.proofs.Math.Nat.{mul-mod_right}
-use Rattle.algebra.specs.Tests.{each, each_at, if◌then◌else◌}
+use Rattle.algebra.specs.Tests.{each, each_at}
 use Rattle.algebra.specs.Xor.{◌⊕◌}
 use Rattle.algebra.specs.Numbers.{rest_below, mul-zero}
 use Rattle.algebra.specs.Horner.{pow}

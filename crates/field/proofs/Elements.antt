@@ -1,14 +1,13 @@
 -- The field that m names, with its table of powers: algebra's `Ring`, on all numbers, and the order of a. All of it rests on the rules of the two
 -- tables, which a wrong polynomial or a wrong table does not meet.
 -- Assumes nothing.
-use Rattle.std.specs.Prelude.{◌≡◌, ◌≢◌, Bool, true, false, eqb}
+use Rattle.std.specs.Prelude.{◌≡◌, ◌≢◌, Bool, true, false, eqb, if◌then◌else◌}
 use Rattle.std.proofs.Math.Path.{refl, ap₂}
 use Rattle.std.proofs.Common.{ap, ◌∙◌, arith}
 use Prim.Native.Nat.{ℕ, zero, suc, ◌%◌, ◌^◌, ◌<◌}
 use Rattle.std.proofs.Math.Nat.{mod-eq_of_lt}
 use Rattle.std.specs.Int.Bits.{bit_xor}
 use Rattle.algebra.specs.Xor.{same_below}
-use Rattle.algebra.specs.Tests.{if◌then◌else◌}
 use Rattle.algebra.specs.Ring.{Ring}
 use Rattle.algebra.specs.Horner.{pow}
 use Rattle.algebra.specs.Numbers.{lift, rest_below}

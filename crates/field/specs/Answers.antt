@@ -1,8 +1,8 @@
 -- Document 01, "Field" and "Numbers a call can answer": what the field's calls answer. The number is 1 where m is no field's and 3 where a
 -- symbol will not do.
 -- Assumes nothing.
-use Rattle.std.specs.Prelude.{Bool, ◌&&◌, ◌||◌, not, ℕ, ◌^◌, ltb, eqb}
-use Rattle.algebra.specs.Tests.{if◌then◌else◌, first_below}
+use Rattle.std.specs.Prelude.{Bool, ◌&&◌, ◌||◌, not, ℕ, ◌^◌, ltb, eqb, if◌then◌else◌}
+use Rattle.algebra.specs.Tests.{first_below}
 use Rattle.field.specs.Field.{mul, a^}
 use Rattle.field.specs.declared.Element.{Element}
 use Rattle.field.specs.declared.Element.TheVariants.{Is, BadField, BadSymbol}

@@ -1,9 +1,8 @@
 -- What the code gives for the product by a, one byte at a time. That it is this product is proved in proofs/Doubles.antt.
 -- Assumes nothing.
-use Rattle.std.specs.Prelude.{Bool, true, false, ℕ, ◌*◌, ◌/◌, ◌%◌, ◌^◌, ◌≤◌, eqb}
+use Rattle.std.specs.Prelude.{Bool, true, false, ℕ, ◌*◌, ◌/◌, ◌%◌, ◌^◌, ◌≤◌, eqb, if◌then◌else◌}
 use Rattle.std.proofs.Common.{arith}
 use Rattle.std.specs.Int.Bits.{bit_xor}
-use Rattle.algebra.specs.Tests.{if◌then◌else◌}
 use Rattle.field.specs.Elements.{wide}
 
 -- what the code gives for one byte: the k lowest places moved up, and c added where the place behind them had a term

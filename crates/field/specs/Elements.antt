@@ -1,7 +1,7 @@
 -- The field that m names, as the one structure that the theory of the word code stands on: algebra's `Ring`, on all numbers.
 -- A number other than 3 stands for 8 here, so that nothing below the settings' own check has to ask what m is.
 -- Assumes nothing.
-use Rattle.std.specs.Prelude.{◌≡◌, ◌≢◌, List, eqb}
+use Rattle.std.specs.Prelude.{◌≡◌, ◌≢◌, List, eqb, if◌then◌else◌}
 use Rattle.std.proofs.Math.Path.{ap₂}
 use Rattle.std.proofs.Common.{sym, ap, ◌∙◌, arith, eq-eqb, ne_eqb}
 use Prim.Native.Nat.{ℕ, ◌-◌, ◌%◌, ◌^◌, ◌<◌}
@@ -9,7 +9,6 @@ use Rattle.std.proofs.Math.Nat.{mod-eq_of_lt}
 use Rattle.std.specs.Int.Bits.{bit_xor}
 use Rattle.std.proofs.Math.Pow.{pow-lt}
 use Rattle.algebra.specs.Xor.{◌⊕◌}
-use Rattle.algebra.specs.Tests.{if◌then◌else◌}
 use Rattle.algebra.specs.Numbers.{Field}
 use Rattle.field.specs.Field.{modulus, mul}
 use Rattle.field.specs.Products.{product_one, product_below, product_assoc, product_comm, product_right}

@@ -1,12 +1,11 @@
 -- What the promises of the calls settle: none has a second answer, and the inverse is the one number that it can be.
 -- Assumes nothing.
-use Rattle.std.specs.Prelude.{◌≡◌, refl, true, ℕ, ◌^◌, ◌<◌}
+use Rattle.std.specs.Prelude.{◌≡◌, refl, true, ℕ, ◌^◌, ◌<◌, if◌then◌else◌}
 use Rattle.std.proofs.Common.{sym, ap, ◌∙◌}
 use Rattle.std.proofs.Math.Decide.{ℕ_discrete}
 use borrow.Author.Tests.{eqb-true, ne_eqb}
 use Rattle.std.proofs.Math.Dec.{eqb}
 use Rattle.algebra.specs.Xor.{◌⊕◌}
-use Rattle.algebra.specs.Tests.{if◌then◌else◌}
 use Rattle.field.specs.Field.{mul}
 use Rattle.field.specs.Elements.{wide, wide_3, wide_8}
 use Rattle.field.specs.Answers.{ElementOutcome, element_outcome, done, is_field, product_of, power_of, inverse_of}

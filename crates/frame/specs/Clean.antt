@@ -1,8 +1,8 @@
 -- Document 02, No. 9: whether every word of a frame is a codeword as received, and which is the first that is not. The trailer is not looked at.
 -- Assumes nothing.
-use Rattle.std.specs.Prelude.{Bool, true, false, not, List, ℕ, ltb, length}
+use Rattle.std.specs.Prelude.{Bool, true, false, not, List, ℕ, ltb, length, if◌then◌else◌}
 use Rattle.std.proofs.Math.Decide.{ℕ_discrete}
-use Rattle.algebra.specs.Tests.{if◌then◌else◌, first_below}
+use Rattle.algebra.specs.Tests.{first_below}
 use Rattle.algebra.specs.Refusal.{need, if_zero, passes}
 use Rattle.word.specs.Codeword.{is_codeword}
 use Rattle.interleave.specs.Slots.{word_in}

@@ -1,13 +1,13 @@
 -- The words of a received frame: one that is decoded, and the loop that decodes them into their parts of the area.
 -- Assumes nothing.
-use Rattle.std.specs.Prelude.{◌≡◌, Bool, true, false, List, ℕ, zero, suc, ◌+◌, ◌*◌, ◌≤◌, ◌<◌, set, take, T, eqb}
+use Rattle.std.specs.Prelude.{◌≡◌, Bool, true, false, List, ℕ, zero, suc, ◌+◌, ◌*◌, ◌≤◌, ◌<◌, set, take, T, eqb, if◌then◌else◌}
 use Rattle.std.proofs.Math.Path.{refl, sym, ap}
 use Rattle.std.proofs.Common.{◌∙◌, not-suc-le-zero, mul-le-mul_right, arith, lt-ltb, le-ltb, below_more, length-set, ext_get_or, length-take-le, get_or-take, get_or-set_same, get_or-set_other}
 use Rattle.std.proofs.Math.Option.{Option, some, none}
 use Rattle.std.proofs.Math.Decide.{dec_lt}
 use Rattle.std.proofs.Math.ListN.{length, get_or, replicate, length-replicate}
 use Rattle.std.proofs.Math.Dec.{ltb}
-use Rattle.algebra.specs.Tests.{at, if◌then◌else◌, below, below_at, below_all, first_none, first_is}
+use Rattle.algebra.specs.Tests.{at, below, below_at, below_all, first_none, first_is}
 use Rattle.algebra.specs.Lists.{tabulated, within, put_part, put_part_size, Written, written_none, written_same, written_more, written_all}
 use Rattle.word.specs.Setting.{message_size, allowed_yes}
 use Rattle.word.specs.Map.{changes, unchanged}

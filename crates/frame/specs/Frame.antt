@@ -1,10 +1,10 @@
 -- Document 01, "Block interleaver and frame" and "Numbers a call can answer", and document 02, No. 6: a frame's limits, its message area, and what
 -- sending and receiving answer and leave, for every input.
 -- Assumes nothing.
-use Rattle.std.specs.Prelude.{Bool, true, false, ◌&&◌, not, List, [], ◌∷◌, ◌++◌, ℕ, ◌+◌, ◌-◌, ◌*◌, ◌/◌, ◌%◌, length, take, drop, replicate, leb, ltb, eqb}
+use Rattle.std.specs.Prelude.{Bool, true, false, ◌&&◌, not, List, [], ◌∷◌, ◌++◌, ℕ, ◌+◌, ◌-◌, ◌*◌, ◌/◌, ◌%◌, length, take, drop, replicate, leb, ltb, eqb, if◌then◌else◌}
 use Rattle.std.proofs.Math.Option.{Option, some, none, get_or}
 use Rattle.std.proofs.Math.Decide.{ℕ_discrete, dec_le}
-use Rattle.algebra.specs.Tests.{if◌then◌else◌, at, each, below, first_below}
+use Rattle.algebra.specs.Tests.{at, each, below, first_below}
 use Rattle.algebra.specs.Lists.{tabulate, joined, part}
 use Rattle.algebra.specs.Refusal.{need, if_zero, passes}
 use Rattle.word.specs.Setting.{allowed, message_size}

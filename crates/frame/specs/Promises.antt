@@ -1,9 +1,8 @@
 -- What the calls on a frame promise (document 01, Block interleaver and frame; document 02, No. 9): the answer in the paper's terms, with what it leaves, is the
 -- one that the paper gives. There is no second such answer.
 -- Assumes nothing.
-use Rattle.std.specs.Prelude.{◌≡◌, refl, Bool, List, ℕ, eqb}
+use Rattle.std.specs.Prelude.{◌≡◌, refl, Bool, List, ℕ, eqb, if◌then◌else◌}
 use Rattle.std.proofs.Common.{sym, ap, ◌∙◌}
-use Rattle.algebra.specs.Tests.{if◌then◌else◌}
 use Rattle.frame.specs.Frame.{allowed_frame, SendOutcome, sent_number, sent_as, send_outcome, sending, ReceiveOutcome, number_of, word_number, verdict_as, payload_of, receive_outcome, receiving}
 use Rattle.frame.specs.Clean.{clean_number, is_yes, unclean_word, CleanOutcome, clean_outcome, cleanness}
 use Rattle.frame.specs.declared.setting.Framing.{Framing}

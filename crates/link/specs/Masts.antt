@@ -1,7 +1,7 @@
 -- Document 02, No. 1, "Two masts": which of two copies of a frame is handed back, and what the calls on both answer and leave, for every input.
 -- Assumes nothing.
-use Rattle.std.specs.Prelude.{◌≡◌, not, List, [], ◌∷◌, ℕ, ◌+◌, ◌*◌, leb, eqb, get_or, replicate}
-use Rattle.algebra.specs.Tests.{if◌then◌else◌, total}
+use Rattle.std.specs.Prelude.{◌≡◌, not, List, [], ◌∷◌, ℕ, ◌+◌, ◌*◌, leb, eqb, get_or, replicate, if◌then◌else◌}
+use Rattle.algebra.specs.Tests.{total}
 use Rattle.algebra.specs.Refusal.{if_zero}
 use Rattle.word.specs.Answers.{no_figures}
 use Rattle.word.specs.declared.Figures.{Figures}

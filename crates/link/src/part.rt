@@ -1,5 +1,5 @@
 // Receiving a frame and finding its payload in one call: document 01, section Block interleaver and frame.
-ghost use Rattle.std.specs.Prelude.{map as List·map};
+ghost use Rattle.std.specs.Prelude.{map as list_map};
 ghost use Rattle.link.specs.Promises.{ReceivesPart};
 
 use frame::{Framing, payload, receive};
@@ -12,7 +12,7 @@ pub fn receive_part<'a>(
     area: &'a mut [u8],
     map: &mut [u8],
 ) -> [&'a [u8]; 2]
-    ensures { ReceivesPart f slots.now marks.now area.old map.old (List·map (λ x. x.now) result) map.new }
+    ensures { ReceivesPart f slots.now marks.now area.old map.old (list_map (λ x. x.now) result) map.new }
 {
     let r = receive(f, slots, marks, &mut area[..], map);
     let t = &area[..];

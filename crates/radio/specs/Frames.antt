@@ -1,12 +1,12 @@
 -- The calls on a frame for C (document 01, Block interleaver and frame; document 02, No. 9): the setting, what is seen of an answer, what each call promises, that
 -- the place seen is the payload's, and that no call has a second answer.
 -- Assumes nothing.
-use Rattle.std.specs.Prelude.{◌≡◌, refl, Bool, ◌≢◌, List, [], ℕ, ◌+◌, ◌-◌, eqb, take, drop}
+use Rattle.std.specs.Prelude.{◌≡◌, refl, Bool, ◌≢◌, List, [], ℕ, ◌+◌, ◌-◌, eqb, take, drop, if◌then◌else◌}
 use Rattle.std.proofs.Common.{ap, ◌∙◌, arith, length-drop, ne_eqb, le-leb}
 use Rattle.std.proofs.Math.Decide.{dec_le}
 use Rattle.std.proofs.Math.ListN.{length, length-take}
 use Rattle.std.proofs.lemmas.Bool.{lt-leb}
-use Rattle.algebra.specs.Tests.{if◌then◌else◌, one_if}
+use Rattle.algebra.specs.Tests.{one_if}
 use Rattle.frame.specs.Frame.{allowed_frame, sent_number, number_of, word_number, is_done, payload_in, payload_of}
 use Rattle.frame.specs.Clean.{clean_number, is_yes, unclean_word}
 use Rattle.frame.specs.Promises.{Sends, Receives, IsClean, sends_once, receives_once, is_clean_once}

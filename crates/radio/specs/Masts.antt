@@ -1,9 +1,8 @@
 -- The calls on two masts for C (document 02, No. 1): what is seen of an answer, what each call promises, that the place seen is the payload's,
 -- and that no call has a second answer.
 -- Assumes nothing.
-use Rattle.std.specs.Prelude.{◌≡◌, refl, Bool, true, false, ◌≢◌, List, [], ℕ, zero, suc, eqb, length, take, drop}
+use Rattle.std.specs.Prelude.{◌≡◌, refl, Bool, true, false, ◌≢◌, List, [], ℕ, zero, suc, eqb, length, take, drop, if◌then◌else◌}
 use Rattle.std.proofs.Common.{sym, ap, ap₂, ◌∙◌, arith, ne_eqb}
-use Rattle.algebra.specs.Tests.{if◌then◌else◌}
 use Rattle.record.specs.declared.Record.{Record}
 use Rattle.frame.specs.Frame.{number_of, verdict_as, payload_of}
 use Rattle.frame.specs.declared.setting.Verdict.TheVariants.{BadSetting, BadLength, BadMark, BeyondReach, BadTrailer}

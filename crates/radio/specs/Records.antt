@@ -1,10 +1,9 @@
 -- The record's calls for C (document 01, Receiver's record): the record as C lends it, what is seen of the one after a frame, what noting
 -- promises, and that no call has a second answer.
 -- Assumes nothing.
-use Rattle.std.specs.Prelude.{◌≡◌, refl, Bool, true, false, not, ◌≢◌, ℕ, eqb}
+use Rattle.std.specs.Prelude.{◌≡◌, refl, Bool, true, false, not, ◌≢◌, ℕ, eqb, if◌then◌else◌}
 use Rattle.std.proofs.Common.{sym, ne_eqb}
 use Rattle.std.proofs.Math.Decide.{ℕ_discrete}
-use Rattle.algebra.specs.Tests.{if◌then◌else◌}
 use Rattle.record.specs.Memory.{unseen_in}
 use Rattle.record.specs.Record.{fresh_record, standing}
 use Rattle.record.specs.Promises.{Notes, notes_once}

@@ -1,8 +1,8 @@
 -- Document 01, "Worked table": the first four bytes of the input, J, n, r and b, and how much of the input is wanted.
 -- Assumes nothing.
-use Rattle.std.specs.Prelude.{◌≡◌, refl, Bool, true, false, not, List, ℕ, ◌+◌, ◌≤◌, ◌<◌, ltb, length, take}
+use Rattle.std.specs.Prelude.{◌≡◌, refl, Bool, true, false, not, List, ℕ, ◌+◌, ◌≤◌, ◌<◌, ltb, length, take, if◌then◌else◌}
 use Rattle.std.proofs.Common.{ap, arith, lt-ltb, le-ltb, ltb-true, ltb-false, take_all, get_or-take, length-take-le}
-use Rattle.algebra.specs.Tests.{if◌then◌else◌, at}
+use Rattle.algebra.specs.Tests.{at}
 use Rattle.frame.specs.Frame.{slot_count, allowed_frame}
 use Rattle.frame.specs.Frame.Limits.{frame_kept, slots_few}
 use Rattle.frame.specs.declared.setting.Framing.{Framing}

@@ -1,10 +1,10 @@
 -- Document 01, "Worked table", and document 02, No. 6: the lines that the bench reader prints of an accepted frame.
 -- Assumes nothing.
-use Rattle.std.specs.Prelude.{Bool, List, [], ◌∷◌, ◌++◌, ℕ, eqb, length, get_or}
+use Rattle.std.specs.Prelude.{Bool, List, [], ◌∷◌, ◌++◌, ℕ, eqb, length, get_or, if◌then◌else◌}
 use Rattle.word.specs.Answers.{no_figures}
 use Rattle.word.specs.declared.Figures.{Figures}
 use Rattle.algebra.specs.Lists.{joined}
-use Rattle.algebra.specs.Tests.{if◌then◌else◌, at}
+use Rattle.algebra.specs.Tests.{at}
 use Rattle.text.specs.Text.{bytes, decimal, named, hexes}
 pub mod Laws
 pub mod Slots

@@ -1,7 +1,7 @@
 -- Document 01, "Worked table": what the bench reader prints, for every input.
 -- Assumes nothing.
-use Rattle.std.specs.Prelude.{List, ℕ, ltb, eqb, length, drop, replicate}
-use Rattle.algebra.specs.Tests.{if◌then◌else◌, at}
+use Rattle.std.specs.Prelude.{List, ℕ, ltb, eqb, length, drop, replicate, if◌then◌else◌}
+use Rattle.algebra.specs.Tests.{at}
 use Rattle.frame.specs.Frame.{slot_count, area_size, ReceiveOutcome, receiving}
 use Rattle.frame.specs.declared.setting.Framing.{Framing}
 use Rattle.text.specs.Text.{refusal}

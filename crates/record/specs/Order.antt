@@ -1,7 +1,6 @@
 -- Document 01, "Receiver's record": how one sequence number stands to another, by their wrapped difference alone.
 -- Assumes nothing.
-use Rattle.std.specs.Prelude.{ℕ, ◌+◌, ◌-◌, ◌%◌, ◌==◌, nat_lt}
-use Rattle.algebra.specs.Tests.{if◌then◌else◌}
+use Rattle.std.specs.Prelude.{ℕ, ◌+◌, ◌-◌, ◌%◌, ◌==◌, nat_lt, if◌then◌else◌}
 use Rattle.record.specs.declared.order.Order.{Order}
 use Rattle.record.specs.declared.order.Order.TheVariants.{Same, Ahead, Behind}
 pub mod Laws

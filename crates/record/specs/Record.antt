@@ -1,8 +1,7 @@
 -- Document 01, "Receiver's record", as document 02, No. 7 amends it: how a frame stands to what the record has accepted, and what a frame's
 -- answer does to the record.
 -- Assumes nothing.
-use Rattle.std.specs.Prelude.{ℕ, ◌+◌, min, true, false, ◌||◌, ◌==◌, nat_lt}
-use Rattle.algebra.specs.Tests.{if◌then◌else◌}
+use Rattle.std.specs.Prelude.{ℕ, ◌+◌, min, true, false, ◌||◌, ◌==◌, nat_lt, if◌then◌else◌}
 use Rattle.record.specs.Memory.{seen_at, seeing, slid}
 use Rattle.record.specs.Order.{lead, lag, compared}
 use Rattle.record.specs.declared.order.Order.{Order}

@@ -1,9 +1,8 @@
 -- Text as bytes: quoted text, decimal numbers, the line of a refusal, and bytes in base sixteen (document 01, "Worked table").
 -- Assumes nothing.
-use Rattle.std.specs.Prelude.{List, [], ◌∷◌, ◌++◌, ℕ, zero, suc, ◌+◌, ◌-◌, ◌/◌, ◌%◌, ltb}
+use Rattle.std.specs.Prelude.{List, [], ◌∷◌, ◌++◌, ℕ, zero, suc, ◌+◌, ◌-◌, ◌/◌, ◌%◌, ltb, if◌then◌else◌}
 use Prim.Native.Char.{code}
 use Prim.Native.String.{String, [] as end, ◌∷◌ as ◌then◌}
-use Rattle.algebra.specs.Tests.{if◌then◌else◌}
 pub mod Decimal
 pub mod Hex
 

@@ -4,7 +4,7 @@
 
 ghost use Rattle.std.specs.Prelude.{[], ◌∷◌, ◌≡◌, ◌+◌, ◌*◌, ◌≤◌, ◌<◌, length};
 ghost use Rattle.text.specs.Put.{Put};
-ghost use Rattle.text.specs.Text.{digit as Text·digit, decimal, signed, named, refusal, hex_digit, hex, hexes};
+ghost use Rattle.text.specs.Text.{digit, decimal, signed, named, refusal, hex_digit, hex, hexes};
 
 // Writes the bytes of a piece.
 pub fn put(piece: &[u8], text: &mut [u8], at: usize) -> usize
@@ -31,7 +31,7 @@ pub fn put_byte(byte: u8, text: &mut [u8], at: usize) -> usize
 // A decimal digit.
 fn digit(d: usize) -> u8
     requires { d < 10 }
-    ensures { result ≡ Text·digit d }
+    ensures { result ≡ digit d }
 {
     48 + d as u8
 }

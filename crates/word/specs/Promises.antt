@@ -1,9 +1,8 @@
 -- What the calls of the word code promise (document 01, Word code; document 02, No. 9): the answer in the paper's terms, with the symbols it leaves, is the one
 -- that the paper gives. There is no second such answer.
 -- Assumes nothing.
-use Rattle.std.specs.Prelude.{◌≡◌, refl, Bool, List, ℕ, eqb}
+use Rattle.std.specs.Prelude.{◌≡◌, refl, Bool, List, ℕ, eqb, if◌then◌else◌}
 use Rattle.std.proofs.Common.{sym, ap, ◌∙◌}
-use Rattle.algebra.specs.Tests.{if◌then◌else◌}
 use Rattle.word.specs.Setting.{allowed}
 use Rattle.word.specs.Answers.{number_of, figures_of, encoded_number, EncodeOutcome, encode_outcome, DecodeOutcome, decode_outcome, encoding, decoding, decoding_part}
 use Rattle.word.specs.Clean.{clean_number, is_yes, CleanOutcome, clean_outcome, cleanness}

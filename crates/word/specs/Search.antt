@@ -1,8 +1,7 @@
 -- The first list of n numbers below q that passes a test.
 -- Assumes nothing.
-use Rattle.std.specs.Prelude.{Bool, List, [], ◌∷◌, ℕ, zero, suc}
+use Rattle.std.specs.Prelude.{Bool, List, [], ◌∷◌, ℕ, zero, suc, if◌then◌else◌}
 use Rattle.std.proofs.Math.Option.{Option, some, none, map}
-use Rattle.algebra.specs.Tests.{if◌then◌else◌}
 pub mod Laws
 
 -- a, or else b

@@ -1,7 +1,7 @@
 -- What a clean frame is: each of its words is a codeword. And what receiving it gives: with no marks no word is changed, and a good trailer is accepted
 -- with e = f = bits = 0.
 -- Assumes nothing.
-use Rattle.std.specs.Prelude.{◌≡◌, Bool, ℕ, zero, suc, ◌+◌, ◌*◌, ◌/◌, ◌%◌, ◌≤◌, ◌<◌, T}
+use Rattle.std.specs.Prelude.{◌≡◌, Bool, ℕ, zero, suc, ◌+◌, ◌*◌, ◌/◌, ◌%◌, ◌≤◌, ◌<◌, T, if◌then◌else◌}
 use Rattle.std.proofs.Math.Path.{refl, sym, ap}
 use Rattle.std.proofs.Common.{◌∙◌, div-lt_iff_lt-mul, mul-zero, not-suc-le-zero}
 use Rattle.std.proofs.Math.Bool.{true, false}
@@ -14,7 +14,7 @@ use native.Mathlib.Omega.{arith}
 use borrow.Author.Tests.{lt-ltb, le-ltb, not-true, not-false}
 use Rattle.std.proofs.Math.Dec.{ltb}
 use Rattle.std.proofs.Math.ListN.{length, get_or, take, replicate, length-replicate, get_or-replicate}
-use Rattle.algebra.specs.Tests.{if◌then◌else◌, at, below_same, passed, first_none, First, first_tells}
+use Rattle.algebra.specs.Tests.{at, below_same, passed, first_none, First, first_tells}
 use Rattle.algebra.specs.Lists.{tabulated, joined, joined_at, joined_same}
 use Rattle.algebra.specs.Refusal.{new}
 use Rattle.word.specs.Setting.{message_size, allowed_yes}

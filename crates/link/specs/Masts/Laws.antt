@@ -1,11 +1,11 @@
 -- The answers of choosing one by one: where one copy is refused, where both are, and where both are accepted.
 -- Assumes nothing.
-use Rattle.std.specs.Prelude.{◌≡◌, refl, Bool, true, false, not, ◌≢◌, ℕ, zero, suc, ◌≤◌, ◌<◌, leb, eqb}
+use Rattle.std.specs.Prelude.{◌≡◌, refl, Bool, true, false, not, ◌≢◌, ℕ, zero, suc, ◌≤◌, ◌<◌, leb, eqb, if◌then◌else◌}
 use Rattle.std.proofs.Common.{ap, ◌∙◌, arith}
 use mathlib.Core.List.{List, []}
 use Rattle.std.proofs.Math.Decide.{ℕ_discrete, dec_le}
 use borrow.Author.Tests.{eq-eqb, ne_eqb, le-leb, lt-leb}
-use Rattle.algebra.specs.Tests.{if◌then◌else◌, total}
+use Rattle.algebra.specs.Tests.{total}
 use Rattle.algebra.specs.Refusal.{if_zero, new, kept}
 use Rattle.word.specs.declared.Figures.{Figures}
 use Rattle.frame.specs.Frame.{ReceiveOutcome, receive_outcome, refused_frame, number_of, word_number, is_done, payload_in, payload_of}

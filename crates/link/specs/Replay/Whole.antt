@@ -3,7 +3,7 @@
 -- Assumes nothing.
 use Rattle.std.proofs.Math.Path.{◌≡◌, refl, ap}
 use Rattle.std.proofs.Common.{◌∙◌, not-suc-le-zero, arith, lt-ltb, le-ltb}
-use Rattle.std.specs.Prelude.{Bool, true, take, replicate}
+use Rattle.std.specs.Prelude.{Bool, true, take, replicate, if◌then◌else◌}
 use Rattle.std.proofs.Math.Bool.{false}
 use mathlib.Core.List.{List, []}
 use Rattle.std.proofs.Math.Option.{Option, some, none, get_or}
@@ -12,7 +12,7 @@ use Rattle.std.proofs.Math.Decide.{ℕ_discrete, dec_lt}
 use Rattle.std.proofs.Math.ListN.{length}
 use Rattle.std.proofs.lemmas.List.{length-replicate}
 use Rattle.std.proofs.Math.Seq.{length-take-le}
-use Rattle.algebra.specs.Tests.{if◌then◌else◌, first_below}
+use Rattle.algebra.specs.Tests.{first_below}
 use Rattle.algebra.specs.Lists.{length_tabulate, length_joined}
 use Rattle.algebra.specs.Refusal.{new}
 use Rattle.word.specs.Setting.{message_size}

@@ -1,10 +1,9 @@
 -- The line of the changed slots as it is written, slot by slot.
 -- Assumes nothing.
-use Rattle.std.specs.Prelude.{◌≡◌, Bool, true, false, List, [], ◌∷◌, ◌++◌, ℕ, ◌+◌, ◌≤◌, ◌<◌, eqb, length, get_or}
+use Rattle.std.specs.Prelude.{◌≡◌, Bool, true, false, List, [], ◌∷◌, ◌++◌, ℕ, ◌+◌, ◌≤◌, ◌<◌, eqb, length, get_or, if◌then◌else◌}
 use Rattle.std.proofs.Common.{append_assoc, append-nil, arith, eq-eqb, ne_eqb}
 use Rattle.std.proofs.Math.ListN.{length-append}
 use Rattle.algebra.specs.Lists.{joined, joined_more}
-use Rattle.algebra.specs.Tests.{if◌then◌else◌}
 use Rattle.text.specs.Put.{Put, put_none, put_then}
 use Rattle.text.specs.Text.{bytes, decimal}
 use Rattle.text.specs.Text.Decimal.{decimal_some}

@@ -1,11 +1,11 @@
 -- What is said of a frame's answer and of an input, one law for each return of the code.
 -- Assumes nothing.
-use Rattle.std.specs.Prelude.{◌≡◌, refl, Bool, true, false, List, [], ◌∷◌, ℕ, zero, suc, ◌+◌, ◌-◌, ◌≤◌, ◌<◌, leb, length, take, drop}
+use Rattle.std.specs.Prelude.{◌≡◌, refl, Bool, true, false, List, [], ◌∷◌, ℕ, zero, suc, ◌+◌, ◌-◌, ◌≤◌, ◌<◌, leb, length, take, drop, if◌then◌else◌}
 use Rattle.std.proofs.Common.{sym, ap, not-suc-le-zero, le_of_suc-le-suc, arith, length-take, length-take-le}
 use borrow.Author.Tests.{lt-ltb, le-ltb, ne_eqb}
 use Rattle.std.proofs.Math.ListN.{length-drop}
 use Rattle.std.proofs.Math.Seq.{take_all}
-use Rattle.algebra.specs.Tests.{if◌then◌else◌, at}
+use Rattle.algebra.specs.Tests.{at}
 use Rattle.frame.specs.Frame.{slot_count, area_size, allowed_frame, ReceiveOutcome, receive_outcome, receiving, number_of, is_done, payload_in, payload_of}
 use Rattle.frame.specs.Frame.Limits.{FrameAllowed, slots_few, area_few}
 use Rattle.frame.specs.Checks.{receive_setting}

@@ -1,11 +1,10 @@
 -- What ahead, same and behind mean, of numbers that go round at 65536: ahead by 1 to 32767, equal, behind by 1 to 32768. Where a sender
 -- numbers its frames on without end, they mean what its own numbers say.
 -- Assumes nothing.
-use Rattle.std.specs.Prelude.{◌≡◌, ℕ, ◌+◌, ◌-◌, ◌%◌, ◌<◌, ◌≤◌, ◌≢◌, ◌==◌, nat_lt, refl}
+use Rattle.std.specs.Prelude.{◌≡◌, ℕ, ◌+◌, ◌-◌, ◌%◌, ◌<◌, ◌≤◌, ◌≢◌, ◌==◌, nat_lt, refl, if◌then◌else◌}
 use Rattle.std.proofs.Common.{sym, ◌∙◌, arith}
 use Rattle.std.proofs.Math.Decide.{ℕ_discrete, dec_lt}
 use borrow.Author.Tests.{eq-eqb, ne_eqb, lt-ltb, le-ltb}
-use Rattle.algebra.specs.Tests.{if◌then◌else◌}
 use Rattle.record.specs.Order.{lead, lag, compared}
 use Rattle.record.specs.declared.order.Order.{Order}
 use Rattle.record.specs.declared.order.Order.TheVariants.{Same, Ahead, Behind}

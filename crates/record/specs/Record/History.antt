@@ -1,9 +1,9 @@
 -- The record after any list of answers: what its counts come to, which frame its last number is of, and how the next frame is judged.
 -- Assumes nothing.
-use Rattle.std.specs.Prelude.{◌≡◌, ℕ, ◌+◌, ◌-◌, ◌%◌, ◌<◌, ◌≤◌, min, max, Bool, true, false, ◌||◌, ltb, ◌≢◌, List, [], ◌∷◌, map, ◌==◌, nat_lt, refl}
+use Rattle.std.specs.Prelude.{◌≡◌, ℕ, ◌+◌, ◌-◌, ◌%◌, ◌<◌, ◌≤◌, min, max, Bool, true, false, ◌||◌, ltb, ◌≢◌, List, [], ◌∷◌, map, ◌==◌, nat_lt, refl, if◌then◌else◌}
 use Rattle.std.proofs.Common.{sym, ap, ◌∙◌, arith, eq-eqb, ne_eqb, lt-ltb}
 use Rattle.std.proofs.Math.Decide.{ℕ_discrete}
-use Rattle.algebra.specs.Tests.{if◌then◌else◌, one_if}
+use Rattle.algebra.specs.Tests.{one_if}
 use Rattle.record.specs.Order.{lag}
 use Rattle.record.specs.Order.Laws.{true_order, by_order, compared_true, lag_true}
 use Rattle.record.specs.Record.{counted_as, lost_after, behind_by, kind_of, standing, noted}

@@ -1,12 +1,11 @@
 -- The cases of a standing and of a note, one for each way out of the code, and what a kind says of the two numbers.
 -- Assumes nothing.
-use Rattle.std.specs.Prelude.{◌≡◌, ℕ, ◌<◌, ◌≤◌, Bool, true, false, ◌≢◌}
+use Rattle.std.specs.Prelude.{◌≡◌, ℕ, ◌<◌, ◌≤◌, Bool, true, false, ◌≢◌, if◌then◌else◌}
 use Rattle.std.proofs.Math.Path.{refl}
 use Rattle.std.proofs.Common.{sym, ap, ◌∙◌, subst, arith}
 use Rattle.std.proofs.lemmas.Bool.{false≢true}
 use Rattle.std.proofs.Math.Decide.{dec_lt}
 use borrow.Author.Tests.{ne_eqb, lt-ltb, le-ltb}
-use Rattle.algebra.specs.Tests.{if◌then◌else◌}
 use Rattle.record.specs.Memory.{seen_at, slid}
 use Rattle.record.specs.Order.{lead, lag, compared}
 use Rattle.record.specs.Order.Laws.{Says, says}

@@ -1,12 +1,11 @@
 -- What the memory means, for frames that a sender numbers on without end: its entry at distance d is set exactly if frame top - d was
 -- accepted, where top is the newest frame. So a late copy is told from a second one.
 -- Assumes nothing.
-use Rattle.std.specs.Prelude.{◌≡◌, ℕ, ◌+◌, ◌-◌, ◌%◌, ◌<◌, ◌≤◌, max, Bool, true, false, ◌&&◌, ◌||◌, ◌≢◌, List, [], ◌∷◌, map, ◌==◌, nat_eq, nat_le, nat_lt, refl}
+use Rattle.std.specs.Prelude.{◌≡◌, ℕ, ◌+◌, ◌-◌, ◌%◌, ◌<◌, ◌≤◌, max, Bool, true, false, ◌&&◌, ◌||◌, ◌≢◌, List, [], ◌∷◌, map, ◌==◌, nat_eq, nat_le, nat_lt, refl, if◌then◌else◌}
 use Rattle.std.proofs.Common.{sym, ap, ◌∙◌, subst, arith, eq-eqb, ne_eqb, lt-ltb, le-ltb, le-leb}
 use Rattle.std.proofs.Math.Bool.{or-true, or-false, or_assoc}
 use Rattle.std.proofs.Math.Decide.{ℕ_discrete, dec_lt, dec_le}
 use Rattle.std.proofs.lemmas.Bool.{lt-leb}
-use Rattle.algebra.specs.Tests.{if◌then◌else◌}
 use Rattle.record.specs.Memory.{seen_at, seeing, slid}
 use Rattle.record.specs.Memory.Laws.{none_seen, seeing_there, seeing_elsewhere, slid_near, slid_last, slid_far}
 use Rattle.record.specs.Order.{lag}

@@ -3,12 +3,12 @@
 -- itself judges it. A number that comes round again is another frame's. The newest frame only rises, so a frame that has come to lie farther
 -- than 32 below it stays beyond the memory's reach, and one within reach was accepted, if at all, since it came there.
 -- Assumes nothing.
-use Rattle.std.specs.Prelude.{◌≡◌, ℕ, ◌+◌, ◌-◌, ◌%◌, ◌<◌, ◌≤◌, max, Bool, true, false, not, ◌||◌, ◌≢◌, List, [], ◌∷◌, map, ◌==◌, refl}
+use Rattle.std.specs.Prelude.{◌≡◌, ℕ, ◌+◌, ◌-◌, ◌%◌, ◌<◌, ◌≤◌, max, Bool, true, false, not, ◌||◌, ◌≢◌, List, [], ◌∷◌, map, ◌==◌, refl, if◌then◌else◌}
 use Rattle.std.proofs.Common.{sym, ap₂, ◌∙◌, arith, eq-eqb, ne_eqb, le-leb}
 use Rattle.std.proofs.Math.Path.{ap}
 use Rattle.std.proofs.lemmas.Bool.{false≢true}
 use Rattle.std.proofs.Math.Decide.{ℕ_discrete}
-use Rattle.algebra.specs.Tests.{if◌then◌else◌, one_if, total, total_same}
+use Rattle.algebra.specs.Tests.{one_if, total, total_same}
 use Rattle.record.specs.Memory.{seen_at, unseen_in}
 use Rattle.record.specs.Memory.Laws.{none_seen}
 use Rattle.record.specs.Order.{lead}

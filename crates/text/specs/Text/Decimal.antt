@@ -1,8 +1,7 @@
 -- Decimal numbers: their digits one by one, how many there are, and that the text says the number.
 -- Assumes nothing.
-use Rattle.std.specs.Prelude.{◌≡◌, refl, Bool, true, false, List, [], ◌∷◌, ◌++◌, ℕ, zero, suc, ◌+◌, ◌-◌, ◌*◌, ◌/◌, ◌%◌, ◌^◌, ◌≤◌, ◌<◌, ltb, length, get_or}
+use Rattle.std.specs.Prelude.{◌≡◌, refl, Bool, true, false, List, [], ◌∷◌, ◌++◌, ℕ, zero, suc, ◌+◌, ◌-◌, ◌*◌, ◌/◌, ◌%◌, ◌^◌, ◌≤◌, ◌<◌, ltb, length, get_or, if◌then◌else◌}
 use Rattle.std.proofs.Common.{not-suc-le-zero, arith, lt-ltb, le-ltb, ltb-true, ltb-false, length-append}
-use Rattle.algebra.specs.Tests.{if◌then◌else◌}
 use Rattle.text.specs.Text.{bytes, digit, digits, decimal, signed}
 
 -- one digit, or more

@@ -1,10 +1,10 @@
 -- What a search finds, and what it means that it finds nothing.
 -- Assumes nothing.
-use Rattle.std.specs.Prelude.{◌≡◌, refl, Bool, true, false, List, [], ◌∷◌, ℕ, zero, suc, ◌<◌, length, T, ltb}
+use Rattle.std.specs.Prelude.{◌≡◌, refl, Bool, true, false, List, [], ◌∷◌, ℕ, zero, suc, ◌<◌, length, T, ltb, if◌then◌else◌}
 use Rattle.std.proofs.Common.{ap, not-suc-le-zero, arith, lt→ltb, ltb→lt}
 use Rattle.std.proofs.Math.Option.{Option, some, none, map}
 use Rattle.std.proofs.Math.Decide.{ℕ_discrete}
-use Rattle.algebra.specs.Tests.{if◌then◌else◌, below, both, and_left, and_right}
+use Rattle.algebra.specs.Tests.{below, both, and_left, and_right}
 use Rattle.word.specs.Search.{or_else, first_of, search}
 
 -- a find has P, and to find nothing shows N
