@@ -1,7 +1,7 @@
 -- What it says that messages sent over a cross line come back 108 frames later, as long as no inner word has more than two wrong bytes
 -- (document 01, Cross line). It speaks of the promises of the line's calls; proofs/CrossBack.antt proves it. Assumes nothing.
-use Rattle.std.specs.Prelude.{◌≡◌, List, ℕ, ◌+◌, ◌-◌, ◌≤◌, ◌<◌, T, replicate}
-use Rattle.algebra.specs.Tests.{at, below}
+use Rattle.std.specs.Prelude.{◌≡◌, List, ℕ, ◌+◌, ◌≤◌, ◌<◌, T, replicate}
+use Rattle.algebra.specs.Tests.{below}
 use Rattle.word.specs.Word.{errors}
 use Rattle.cross.specs.Cross.{without_figures, received}
 use Rattle.cross.specs.Calls.{SenderCalls}

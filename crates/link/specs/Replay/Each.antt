@@ -6,7 +6,7 @@ use Rattle.frame.specs.Frame.{slot_count, area_size, receive_outcome}
 use Rattle.frame.specs.declared.setting.Framing.{Framing}
 use Rattle.frame.specs.declared.setting.Received.{Received}
 use Rattle.record.specs.declared.Record.{Record}
-use Rattle.link.specs.Replay.{frames_in, record_after, heard, result_of}
+use Rattle.link.specs.Replay.{frames_in, record_after, result_of}
 use Rattle.link.specs.Promises.{Hears, Replays}
 use Rattle.link.specs.declared.replaying.Replayed.{Replayed}
 
