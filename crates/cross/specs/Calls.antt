@@ -198,16 +198,25 @@ module _ (many : ℕ) (words : ℕ → List ℕ) (answers : ℕ → Received) (m
   unfolding memory_after
   taken F h a = five (rw (receive_done _ _ _ _ _ _ (receive_fine F h a), a.position, a.memory, a.held) at (r.frame F h).outcome)
 
+  -- the same without the map, on which nothing after the frame rests
+  taken_on : (F : ℕ) → F < many → ReceiverAt F
+      → (answers F ≡ record { answer = (answered_at F).number; figures = (answered_at F).figures; position = after 108 (position_after 108 F) })
+      × (r.memory (suc F) ≡ held_bytes (suc F)) × (r.held (suc F) ≡ held_marks (suc F)) × (messages F ≡ (answered_at F).message)
+  unfolding memory_after
+  taken_on F h a =
+      let (x, m, ms, w, _) = five (rw (receive_done _ _ _ _ _ _ (receive_fine F h a), a.position, a.memory, a.held) at (r.frame F h).outcome) in
+      (x, m, ms, w)
+
   receiver_at : (F : ℕ) → F ≤ many → ReceiverAt F
   unfolding position_after
   receiver_at zero h = receiver_fresh
   receiver_at (suc F) h =
-      let (a, m, ms, _, _) = taken F (omega arith) (receiver_at F (omega arith)) in
+      let (a, m, ms, _) = taken_on F (omega arith) (receiver_at F (omega arith)) in
       record { position = r.next F (omega arith) ∙ ap (λ (z : Received). z.position) a; memory = m; held = ms }
 
   answered : (F : ℕ) → F < many → received (answers F) (messages F) ≡ answered_at F
   answered F h =
-      let (a, _, _, w, _) = taken F h (receiver_at F (omega arith)) in
+      let (a, _, _, w) = taken_on F h (receiver_at F (omega arith)) in
       rw (a, w)
 
   -- The first 108 frames are answered 7, whatever their words are, and leave the message bytes.
@@ -221,5 +230,6 @@ module _ (many : ℕ) (words : ℕ → List ℕ) (answers : ℕ → Received) (m
   -- Every frame leaves the map of its own inner word, also while it is answered 7 and where the outer word is refused.
   pub mapped : (F : ℕ) → F < many → r.maps F ≡ map_of (words F)
   mapped F h =
-      let (_, _, _, _, u) = taken F h (receiver_at F (omega arith)) in
+      let a = receiver_at F (omega arith) in
+      let (_, _, _, _, u) = five (rw (receive_done _ _ _ _ _ _ (receive_fine F h a), a.position, a.memory, a.held) at (r.frame F h).outcome) in
       u

@@ -60,9 +60,13 @@ module _ (s : Setting) (received marks : List ℕ) (place : List ℕ → List �
     unfolding answering
     looked_at = new z _ _ (sym e)
 
+    -- a word that is corrected is answered as its correction is placed
+    pub answering_some : (w : List ℕ) → corrected s marks received ≡ some w → placed place marks received lent (some w) ≡ answering s received marks z place lent map
+    answering_some w g = sym (ap (placed place marks received lent) g) ∙ looked_at
+
     pub answering_found : (w : List ℕ) (f : Figures) (u : List ℕ) → corrected s marks received ≡ some w → f ≡ figures marks received w → u ≡ changes received w
         → decode_outcome (Done f) (place w) u ≡ answering s received marks z place lent map
-    answering_found w f u g h m = rw (h, m) (sym (ap (placed place marks received lent) g) ∙ looked_at)
+    answering_found w f u g h m = rw (h, m) (answering_some w g)
 
     pub answering_none : (u : List ℕ) → corrected s marks received ≡ none → u ≡ unchanged received → decode_outcome BeyondReach lent u ≡ answering s received marks z place lent map
     answering_none u g m = rw m (sym (ap (placed place marks received lent) g) ∙ looked_at)
@@ -76,7 +80,7 @@ module _ (s : Setting) (received marks map : List ℕ) where
     pub decode_found : (w : List ℕ) (f : Figures) (u : List ℕ) → corrected s marks received ≡ some w → f ≡ figures marks received w → u ≡ changes received w
         → Decodes s received marks map (Done f) w u
     unfolding decoding
-    decode_found w f u g h m = record { outcome = answering_found s received marks (λ c. c) received map _ (passes s received marks map l c) w f u g h m }
+    decode_found w f u g h m = record { outcome = rw (h, m) (answering_some s received marks (λ c. c) received map _ (passes s received marks map l c) w g) }
 
     pub decode_lost : (u : List ℕ) → corrected s marks received ≡ none → u ≡ unchanged received → Decodes s received marks map BeyondReach received u
     unfolding decoding
@@ -91,7 +95,7 @@ module _ (s : Setting) (received marks part map : List ℕ) where
     pub part_found : (w : List ℕ) (f : Figures) (u : List ℕ) → corrected s marks received ≡ some w → f ≡ figures marks received w → u ≡ changes received w
         → DecodesPart s received marks part map (Done f) (take (message_size s) w) u
     unfolding decoding_part
-    part_found w f u g h m = record { outcome = answering_found s received marks (take (message_size s)) part map _ (part_passes s received marks part map n l c) w f u g h m }
+    part_found w f u g h m = record { outcome = rw (h, m) (answering_some s received marks (take (message_size s)) part map _ (part_passes s received marks part map n l c) w g) }
 
     pub part_lost : (u : List ℕ) → corrected s marks received ≡ none → u ≡ unchanged received → DecodesPart s received marks part map BeyondReach part u
     unfolding decoding_part

@@ -6,7 +6,7 @@ use lib.ListN.{length}
 use Rattle.word.specs.Setting.{limits}
 use Rattle.word.specs.Refusals.{message_checked}
 use Rattle.word.specs.Met.{encode_refused, encode_done}
-use Rattle.word.specs.Encoding.{encoded_front}
+use Rattle.word.proofs.Encoding.{encoded_front}
 use Rattle.word.proofs.encode.Goals as goal
 
 pub encode_refused-requires : goal.encode_refused-requires

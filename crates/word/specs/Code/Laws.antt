@@ -12,6 +12,7 @@ use Rattle.algebra.specs.Tests.{at, total, below, and_right}
 use Rattle.word.specs.Setting.{allowed, Allowed, limits}
 use Rattle.word.specs.Word.{errors, error_at, error_of_same, error_of_marked, marked}
 use Rattle.word.specs.Codeword.{is_codeword, qualifies, Codeword, codeword, InReach, in_reach, is_in_reach}
+use Rattle.word.specs.Search.{search}
 use Rattle.word.specs.Search.Laws.{Passes, Sound, search_sound, search_only, search_none}
 use Rattle.word.specs.Distance.{near_one, total_zero, errors_self}
 use Rattle.word.specs.Completion.{message_completes}
@@ -114,24 +115,34 @@ append_cancel [] x y e = e
 append_cancel (a ∷ v) x y e = append_cancel v x y (ap (drop 1) e)
 
 module _ (s : Setting) (ok : T (allowed s)) (message : List ℕ) (size : length message ≡ s.n - s.r) where
+  -- two codewords that begin with the message are one, ..
+  pub checks_once : (u checks : List ℕ) → T (is_codeword s (message ++ u)) → T (is_codeword s (message ++ checks)) → u ≡ checks
+  checks_once u checks p t =
+      let w : Codeword s (message ++ checks) = codeword s (message ++ checks) t in
+      let a : Allowed s = limits s ok in
+      append_cancel message u checks
+      (near_one s a (checks_marked (s.n - s.r) s.r) (message ++ checks) w.size (message ++ u) (message ++ checks)
+      (begins_near s message checks u a.room size w (codeword s (message ++ u) p)) (begins_near s message checks checks a.room size w w))
+
+  -- .. so its check symbols are what a search for them finds
+  checks_found : (checks : List ℕ) → T (is_codeword s (message ++ checks)) → search (2 ^ s.m) s.r (λ u. is_codeword s (message ++ u)) ≡ some checks
+  checks_found checks t =
+      let w : Codeword s (message ++ checks) = codeword s (message ++ checks) t in
+      search_only (2 ^ s.m) s.r (λ u. is_codeword s (message ++ u)) checks
+      (record { size = omega (arith, w.size, (limits s ok).room, length-append message checks); small = below_after (2 ^ s.m) message checks w.small; good = t })
+      λ u p. checks_once u checks p.good t
+
   -- the one codeword that begins with the message
   pub encoded_only : (checks : List ℕ) → T (is_codeword s (message ++ checks)) → encoded s message ≡ message ++ checks
   unfolding encoded
-  encoded_only checks t =
-      let w : Codeword s (message ++ checks) = codeword s (message ++ checks) t in
-      let a : Allowed s = limits s ok in
-      ap (λ (o : Option (List ℕ)). message ++ get_or o [])
-      (search_only (2 ^ s.m) s.r (λ u. is_codeword s (message ++ u)) checks
-      (record { size = omega (arith, w.size, a.room, length-append message checks); small = below_after (2 ^ s.m) message checks w.small; good = t })
-      λ u p. append_cancel message u checks
-      (near_one s a (checks_marked (s.n - s.r) s.r) (message ++ checks) w.size (message ++ u) (message ++ checks)
-      (begins_near s message checks u a.room size w (codeword s (message ++ u) p.good)) (begins_near s message checks checks a.room size w w)))
+  encoded_only checks t = ap (λ (o : Option (List ℕ)). message ++ get_or o []) (checks_found checks t)
 
   -- and there is one
   pub encoded_codeword : T (below (2 ^ s.m) message) → T (is_codeword s (encoded s message))
+  unfolding encoded
   encoded_codeword small =
       let (checks, c) = message_completes s (limits s ok) message size small in
-      subst (λ (w : List ℕ). T (is_codeword s w)) (sym (encoded_only checks c)) c
+      subst (λ (o : Option (List ℕ)). T (is_codeword s (message ++ get_or o []))) (sym (checks_found checks c)) c
 
 -- it begins with the message
 pub encoded_begins : (s : Setting) (message : List ℕ) → take (length message) (encoded s message) ≡ message

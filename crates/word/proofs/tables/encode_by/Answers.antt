@@ -3,7 +3,7 @@ use mathlib.Core.Path.{◌≡◌, sym}
 use native.Mathlib.Omega.{arith}
 use lib.ListN.{length}
 use Rattle.word.specs.Setting.{limits}
-use Rattle.word.specs.Encoding.{encoded_front}
+use Rattle.word.proofs.Encoding.{encoded_front}
 use borrow.Author.Rules.{rules}
 use Rattle.word.proofs.tables.encode_by.Goals as goal
 
