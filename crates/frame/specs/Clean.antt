@@ -10,7 +10,6 @@ use Rattle.frame.specs.Frame.{word_setting, slot_count, allowed_frame}
 use Rattle.frame.specs.declared.setting.Framing.{Framing}
 use Rattle.frame.specs.declared.clean.Clean.{Clean}
 use Rattle.frame.specs.declared.clean.Clean.TheVariants.{Yes, No, BadSetting, BadLength}
-pub mod Laws
 
 -- the code's answer in this paper's terms: its number, whether all words are codewords, and the first that is none
 abbrev pub clean_number : Clean → ℕ

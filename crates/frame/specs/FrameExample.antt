@@ -84,13 +84,29 @@ area : area_received example slots_in (replicate 10 0) ≡ 0 ∷ 65 ∷ 1 ∷ 0 
 unfolding area_received joined message_of
 area = rw (corrected_0, corrected_1)
 
+figures_0 : figures_at example slots_in (replicate 10 0) 0 ≡ figures 1 0 2
+unfolding figures_at tabulate error_of errors marked bits total ones ones_in ◌⊕◌
+figures_0 = simp (corrected_0, word_rule)
+
+figures_1 : figures_at example slots_in (replicate 10 0) 1 ≡ figures 1 0 1
+unfolding figures_at tabulate error_of errors marked bits total ones ones_in ◌⊕◌
+figures_1 = simp (corrected_1, word_rule)
+
 found : figures_received example slots_in (replicate 10 0) ≡ figures 1 0 2 ∷ figures 1 0 1 ∷ replicate 14 no_figures
-unfolding figures_received figures_at tabulate error_of errors marked bits total ones ones_in ◌⊕◌
-found = simp (corrected_0, corrected_1, word_rule)
+unfolding figures_received tabulate
+found = rw (figures_0, figures_1)
+
+changes_0 : changes_at example slots_in (replicate 10 0) 0 ≡ 0 ∷ 1 ∷ 0 ∷ 0 ∷ 0 ∷ []
+unfolding changes_at changes change_of tabulate
+changes_0 = simp (corrected_0, word_rule)
+
+changes_1 : changes_at example slots_in (replicate 10 0) 1 ≡ 0 ∷ 1 ∷ 0 ∷ 0 ∷ 0 ∷ []
+unfolding changes_at changes change_of tabulate
+changes_1 = simp (corrected_1, word_rule)
 
 map : map_received example slots_in (replicate 10 0) ≡ 0 ∷ 0 ∷ 1 ∷ 1 ∷ replicate 6 0
-unfolding map_received changes_at changes change_of joined tabulate
-map = simp (corrected_0, corrected_1, word_rule, spread_rule)
+unfolding map_received joined tabulate
+map = rw (changes_0, changes_1, spread_rule)
 
 pub received_example : receiving example slots_in (replicate 10 0) (replicate 6 0) (replicate 10 0) ≡ record {
   number = 0;
@@ -102,8 +118,8 @@ pub received_example : receiving example slots_in (replicate 10 0) (replicate 6 
   payload = 65 ∷ [];
   map = 0 ∷ 0 ∷ 1 ∷ 1 ∷ replicate 6 0;
 }
-unfolding receiving decoded_frame below settled trailer_good zeros_before each payload_in
+unfolding receiving decoded_frame below settled trailer_good zeros_before each payload_in figures_received map_received joined tabulate
 received_example =
     let passed = receive_passes example slots_in (replicate 10 0) (replicate 6 0) (replicate 10 0)
     (record { limits = example_allowed; slots_size = refl; marks_size = refl; marks_small = tt; area_size_lem = refl; map_size = refl }) in
-    sym (new _ _ _ (sym passed)) ∙ rw (within_reach, area, found, map)
+    sym (new _ _ _ (sym passed)) ∙ rw (within_reach, area, figures_0, figures_1, changes_0, changes_1, spread_rule)

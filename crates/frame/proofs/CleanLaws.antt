@@ -1,5 +1,5 @@
 -- What a clean frame is: each of its words is a codeword. And what receiving it gives: with no marks no word is changed, and a good trailer is accepted
--- with e = f = bits = 0.
+-- with e = f = bits = 0. This stands here, and not in specs/, since edits in must-fail/ turn what a clean frame is, and what figures and map receiving gives.
 -- Assumes nothing.
 use Rattle.std.specs.Prelude.{◌≡◌, Bool, ℕ, zero, suc, ◌+◌, ◌*◌, ◌/◌, ◌%◌, ◌≤◌, ◌<◌, T, if◌then◌else◌}
 use Rattle.std.proofs.Math.Path.{refl, sym, ap}
