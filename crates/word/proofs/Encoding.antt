@@ -1,7 +1,7 @@
 -- The message and the register's check symbols are the codeword that begins with the message. This stands here, and not in specs/, since an edit in
 -- must-fail/ turns what `encoded` is.
 -- Assumes nothing.
-use Rattle.std.specs.Prelude.{◌≡◌, List, ◌++◌, ℕ, ◌-◌, ◌^◌, T, length, take, drop}
+use Rattle.std.specs.Prelude.{◌≡◌, List, ◌++◌, ℕ, ◌^◌, T, length, take, drop}
 use Rattle.std.proofs.Common.{sym, ◌∙◌, arith, take-append-drop, length-take-le}
 use Rattle.algebra.specs.Tests.{below, below_split}
 use Rattle.word.specs.Setting.{allowed, message_size}

@@ -1,7 +1,7 @@
 -- Who has the promise of decoding has its meaning, case by case. This stands here, and not in specs/, since an edit in must-fail/ turns what the map
 -- of an accepted word is.
 -- Assumes nothing.
-use Rattle.std.specs.Prelude.{◌≡◌, refl, List, ℕ, zero, suc, ◌≤◌, T, length}
+use Rattle.std.specs.Prelude.{◌≡◌, refl, List, ℕ, zero, suc, ◌≤◌, length}
 use Rattle.std.proofs.Common.{sym, subst, arith}
 use Rattle.std.proofs.Math.Option.{Option, some, none}
 use Rattle.word.specs.Map.{changes, unchanged}
