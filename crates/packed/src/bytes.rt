@@ -57,10 +57,8 @@ pub fn bytes_of(p: Pair) -> [u8; 16]
     ensures { result ≡ bytes p.low p.high }
 {
     let mut out = [0u8; 16];
-    let mut i = 0;
-    while i < 16 {
+    for i in 0..16 {
         out[i] = symbol_of(p, i);
-        i += 1;
     }
     out
 }

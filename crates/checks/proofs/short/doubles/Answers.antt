@@ -13,7 +13,7 @@ loop-i-init c =
     (omega arith, doubling_none _ _ _ _ _ _ (search rules) c.requires.1 (holds_bytes _ _ (search rules) (pow_pos 64)) c.requires.0 refl c.requires.2 (zeros 8))
 
 pub loop-i-preserved : goal.loop-i-preserved
-loop-i-preserved c = (omega arith, short_double _ _ _ _ _ _ (omega arith) (omega arith) (search rules) (search rules) c.loop-i.invariant.1 c.double_word-d.ensures)
+loop-i-preserved c = (omega arith, short_double _ _ _ _ _ _ (omega arith) (omega arith) (search rules) (search rules) c.loop-i.invariant.1 c.double_word-d.ensures.each)
 
 pub returns : goal.returns
 returns c = doubling_all _ _ _ _ _ _ _ (omega arith) c.loop-i.invariant.1

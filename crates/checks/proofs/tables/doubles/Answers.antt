@@ -10,7 +10,7 @@ loop-i-init c =
     (omega arith, doubling_none _ _ _ _ _ _ (search rules) c.requires.2 (holds_bytes _ _ (search rules) (search rules)) c.requires.0 c.requires.1 c.requires.3 c.requires.4)
 
 pub loop-i-preserved : goal.loop-i-preserved
-loop-i-preserved c = (omega arith, doubling_more _ _ _ _ _ _ _ _ _ (omega arith) (omega arith) (search rules) c.loop-i.invariant.1 c.doubled-d.ensures)
+loop-i-preserved c = (omega arith, doubling_more _ _ _ _ _ _ _ _ _ (omega arith) (omega arith) (search rules) c.loop-i.invariant.1 c.doubled-d.ensures.each)
 
 pub returns : goal.returns
 returns c = doubling_all _ _ _ _ _ _ _ (omega arith) c.loop-i.invariant.1
