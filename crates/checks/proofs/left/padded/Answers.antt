@@ -6,12 +6,12 @@ use Rattle.checks.specs.Left.{padded_none, padded_more}
 use Rattle.checks.proofs.left.padded.Goals as goal
 
 pub loop-i-init : goal.loop-i-init
-loop-i-init c = (omega arith, padded_none _)
+loop-i-init c = padded_none _
 
 pub loop-i-preserved : goal.loop-i-preserved
-loop-i-preserved c = (omega arith, padded_more _ _ _ (omega arith) c.loop-i.invariant.1)
+loop-i-preserved c = padded_more _ _ _ (omega arith) c.loop-i.invariant
 
 pub returns : goal.returns
 returns c =
     let e : c.loop-i.i ≡ length c.args.symbols.now = omega arith in
-    rw e at c.loop-i.invariant.1
+    rw e at c.loop-i.invariant
