@@ -6,12 +6,10 @@ use native.Mathlib.Omega.{arith}
 use native.Mathlib.Nat.{mod-lt}
 use Rattle.rings.specs.Rings.{order_small}
 use Rattle.rings.specs.Run.{ring_fits}
-use Rattle.rings.proofs.Steps.{turn_small}
+use Rattle.rings.proofs.Steps.{turn_small, met_all}
 use Rattle.rings.proofs.Branches.{branches_none, branches_more, branches_round, branches_all}
 use Rattle.rings.proofs.run.Goals as goal
-
-pub branches_met-met-requires : goal.branches_met-met-requires
-branches_met-met-requires c = c.requires.branches.0
+use Rattle.rings.proofs.run.Goals.{then-branch-branches, else-branch-branches}
 
 pub nonzero_rem-branch : goal.nonzero_rem-branch
 nonzero_rem-branch c = omega (arith, c.requires.branches.0)
@@ -29,13 +27,10 @@ pub walk-requires : goal.walk-requires
 walk-requires c =
     let l = c.loop-i in
     let here = mod-lt (c.args.start + l.i) c.requires.branches.0 in (
-      omega (arith, c.loop-i-test.true, c.branches_met-met.ensures.0),
+      omega (arith, c.loop-i-test.true, c.min-met.ensures),
       c.requires.branches.1,
       rw (l.invariant.exact, c.ring_of-k.ensures, l.invariant.stands) (ring_fits _ _ _ _ _ _ c.requires (order_small c.args.back c.args.branches _ here)),
     )
-
-pub overflow_add-i : goal.overflow_add-i
-overflow_add-i c = omega (arith, c.loop-i-test.true)
 
 pub overflow_add-branch : goal.overflow_add-branch
 overflow_add-branch c =
@@ -43,24 +38,15 @@ overflow_add-branch c =
 
 pub overflow_add-q : goal.overflow_add-q
 overflow_add-q c =
-    let met : c.loop-i.i < c.args.branches = omega (arith, c.loop-i-test.true, c.branches_met-met.ensures.0) in
+    let met : c.loop-i.i < c.args.branches = omega (arith, c.loop-i-test.true, c.min-met.ensures) in
     omega (arith, c.loop-i.invariant.turn, c.requires.place, turn_small c.args.branches c.args.start c.loop-i.i met)
-
-pub loop-i-smaller-then-branch-branches : goal.loop-i-smaller-then-branch-branches
-loop-i-smaller-then-branch-branches c = omega (arith, c.loop-i-test.true)
-
-pub loop-i-preserved-then-branch-branches : goal.loop-i-preserved-then-branch-branches
-loop-i-preserved-then-branch-branches c =
-    branches_round _ _ _ _ _ _ _ c.requires _ _ _ _ _ _ _ c.loop-i.invariant
-    (rw c.ring_of-k.ensures at c.walk.ensures) c.memory-1.given c.bytes-1.given c.if-branch-branches.true
-
-pub loop-i-smaller : goal.loop-i-smaller
-loop-i-smaller c = omega (arith, c.loop-i-test.true)
 
 pub loop-i-preserved : goal.loop-i-preserved
 loop-i-preserved c =
-    branches_more _ _ _ _ _ _ _ c.requires _ _ _ _ _ _ _ c.loop-i.invariant
-    (rw c.ring_of-k.ensures at c.walk.ensures) c.memory-1.given c.bytes-1.given c.if-branch-branches.false
+    elim c.if-branch-branches.branch [
+      | then-branch-branches w ↦ rw (w.branch'-is, w.q-is) (branches_round _ _ _ _ _ _ _ c.requires _ _ _ _ _ _ _ c.loop-i.invariant (rw c.ring_of-k.ensures at c.walk.ensures) c.walk.auto.memory c.walk.auto.bytes w.if-branch-branches.true)
+      | else-branch-branches w ↦ rw (w.branch'-is, w.q-is) (branches_more _ _ _ _ _ _ _ c.requires _ _ _ _ _ _ _ c.loop-i.invariant (rw c.ring_of-k.ensures at c.walk.ensures) c.walk.auto.memory c.walk.auto.bytes w.if-branch-branches.false)
+    ]
 
 pub position_after-requires : goal.position_after-requires
 position_after-requires c = c.requires.place
@@ -74,4 +60,4 @@ shape_of-bytes c = c.loop-i.invariant.count
 pub returns : goal.returns
 returns c =
     branches_all _ _ _ _ _ _ _ c.requires _ _ _ _ _ _
-    (λ j h. omega (arith, c.branches_met-met.ensures.1 j h, c.loop-i-test.false)) (c.position_after.ensures ∙ rw c.loop-i.invariant.count refl) c.loop-i.invariant
+    (λ j h. met_all _ _ j _ h c.requires.branches.0 (omega (arith, c.min-met.ensures))) (c.position_after.ensures ∙ rw c.loop-i.invariant.count refl) c.loop-i.invariant
