@@ -4,8 +4,6 @@ use Prim.Native.Nat.{◌-◌}
 use Rattle.decoder.specs.Corrections.{Taking}
 use Rattle.decoder.proofs.correct.take_out.Given as goal
 
-abbrev pub invariant-loop-j : goal.invariant-loop-j
-invariant-loop-j l = Taking l.m l.rest l.y l.x l.j l.term l.left
+abbrev pub invariant-loop-sum : goal.invariant-loop-sum
+invariant-loop-sum l = Taking l.m l.initial.rest l.y l.x l.sum-index l.term l.rest
 
-abbrev pub decreases-loop-j : goal.decreases-loop-j
-decreases-loop-j l = 16 - l.j

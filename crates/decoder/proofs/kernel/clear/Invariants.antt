@@ -7,5 +7,3 @@ use Rattle.decoder.proofs.kernel.clear.Given as goal
 abbrev pub invariant-loop-s : goal.invariant-loop-s
 invariant-loop-s l = Clearing l.m l.d l.sums l.j l.p l.x l.s l.v l.alive
 
-abbrev pub decreases-loop-s : goal.decreases-loop-s
-decreases-loop-s l = l.d - l.s

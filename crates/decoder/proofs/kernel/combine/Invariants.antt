@@ -7,5 +7,3 @@ use Rattle.decoder.proofs.kernel.combine.Given as goal
 abbrev pub invariant-loop-l : goal.invariant-loop-l
 invariant-loop-l l = (l.l ≤ l.d) × Combined l.m l.b l.c l.l l.x l.y l.initial.v l.v
 
-abbrev pub decreases-loop-l : goal.decreases-loop-l
-decreases-loop-l l = l.d - l.l

@@ -7,5 +7,3 @@ use Rattle.decoder.proofs.kernel.dot.Given as goal
 abbrev pub invariant-loop-l : goal.invariant-loop-l
 invariant-loop-l l = Dotted l.m l.d l.v l.b l.sums l.j l.l l.sum
 
-abbrev pub decreases-loop-l : goal.decreases-loop-l
-decreases-loop-l l = l.d - l.l

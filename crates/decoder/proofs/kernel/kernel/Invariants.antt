@@ -7,5 +7,3 @@ use Rattle.decoder.proofs.kernel.kernel.Given as goal
 abbrev pub invariant-loop-j : goal.invariant-loop-j
 invariant-loop-j l = (l.j ≤ l.t) × Eliminated l.m (l.t + 1) l.long l.j l.v l.alive
 
-abbrev pub decreases-loop-j : goal.decreases-loop-j
-decreases-loop-j l = l.t - l.j

@@ -7,5 +7,3 @@ use Rattle.decoder.proofs.kernel.units.Given as goal
 abbrev pub invariant-loop-s : goal.invariant-loop-s
 invariant-loop-s l = (l.s ≤ 9) × Units l.s l.v
 
-abbrev pub decreases-loop-s : goal.decreases-loop-s
-decreases-loop-s l = 9 - l.s

@@ -8,5 +8,3 @@ use Rattle.decoder.proofs.locate.candidates.Given as goal
 abbrev pub invariant-loop-i : goal.invariant-loop-i
 invariant-loop-i l = (l.i ≤ l.n) × Filled 255 (λ k. flag_of l.m (at l.marks k) (value_at l.m l.n l.v l.d k)) l.i l.flags
 
-abbrev pub decreases-loop-i : goal.decreases-loop-i
-decreases-loop-i l = l.n - l.i

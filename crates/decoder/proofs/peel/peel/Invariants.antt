@@ -8,5 +8,3 @@ use Rattle.decoder.proofs.peel.peel.Given as goal
 abbrev pub invariant-loop-j : goal.invariant-loop-j
 invariant-loop-j l = Filled 16 (without l.m l.x l.sums) l.j l.rest
 
-abbrev pub decreases-loop-j : goal.decreases-loop-j
-decreases-loop-j l = 15 - l.j
