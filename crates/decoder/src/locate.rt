@@ -24,7 +24,12 @@ pub fn locators(m: usize, n: usize) -> [u8; 255]
 }
 
 // One turn of Horner's rule at each of the first n points, in the field of 2^M elements. M is known before the run, so the loop is vector code.
-fn raise_by<const M: usize>(n: usize, values: [u8; 255], points: &[u8; 255], symbol: u8) -> [u8; 255]
+fn raise_by<const M: usize>(
+    n: usize,
+    values: [u8; 255],
+    points: &[u8; 255],
+    symbol: u8,
+) -> [u8; 255]
     requires { n ≤ 255 }
     ensures { Filled 255 (raised_at M symbol values points.now) n result }
 {

@@ -2,7 +2,7 @@
 -- course is at hand. The measure is what is left of 16.
 use native.Mathlib.Omega.{arith}
 use borrow.Author.Rules.{rules}
-use Rattle.decoder.specs.Corrections.{taking_start, taking_turn, taking_end}
+use Rattle.decoder.specs.Corrections.{taking_start, taking_turn}
 use Rattle.decoder.proofs.correct.take_out.Goals as goal
 
 pub loop-sum-init : goal.loop-sum-init
@@ -10,6 +10,3 @@ loop-sum-init c = taking_start (search rules)
 
 pub loop-sum-preserved : goal.loop-sum-preserved
 loop-sum-preserved c = taking_turn (omega arith) c.times-term.ensures c.loop-sum.invariant
-
-pub returns : goal.returns
-returns c = record { size = c.loop-sum.invariant.done.size; taken = taking_end (omega arith) c.loop-sum.invariant }
