@@ -104,14 +104,20 @@ locator_next m n i x a h e = let s : n - (i - 1) ≡ suc (n - i) = omega arith i
 
 -- ---- the loops that take a polynomial's value, from the highest coefficient down
 
--- what point i holds after one turn, by a product whose m is a number k of the same width
+-- what point i holds after one turn
 unfoldable pub raised_at : (m symbol : ℕ) (values points : List ℕ) → ℕ → ℕ
 raised_at m symbol values points = lane_after m symbol values points
 
-pub raised_more : (m k symbol : ℕ) (values points : List ℕ) (i : ℕ) (next : List ℕ) (p : ℕ) → wide m ≡ wide k → i < 255 → p ≡ prod k (at values i) (at points i)
+pub raised_more : (m symbol : ℕ) (values points : List ℕ) (i : ℕ) (next : List ℕ) (p : ℕ) → i < 255 → p ≡ prod m (at values i) (at points i)
     → Filled 255 (raised_at m symbol values points) i next → Filled 255 (raised_at m symbol values points) (i + 1) (set next i (bit_xor p symbol))
 unfolding raised_at
-raised_more m k symbol values points i next p w l e = filled_more 255 _ i next _ l (rw (e, w))
+raised_more m symbol values points i next p l e = filled_more 255 _ i next _ l (rw e)
+
+-- and it depends on m by its width alone
+pub raised_wide : (m k symbol : ℕ) (values points : List ℕ) (n : ℕ) (next : List ℕ) → wide m ≡ wide k
+    → Filled 255 (raised_at k symbol values points) n next → Filled 255 (raised_at m symbol values points) n next
+unfolding raised_at
+raised_wide m k symbol values points n next w p = record { size = p.size; first = λ i l. p.first i l ∙ rw w }
 
 module _ (m d : ℕ) (v : List ℕ) where
   -- the value at x of the coefficients from l on, with the l-th power of x taken out

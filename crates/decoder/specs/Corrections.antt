@@ -124,18 +124,20 @@ error_at {m} {n} {b} {p} {e} {flags} x w d y i weighs ex ed ey ei ee =
 pub record Taking (m : ℕ) (rest : List ℕ) (y x j term : ℕ) (left : List ℕ) : Type 0 where
   pub done : Filled 16 (λ i. bit_xor (at rest i) (course m y x i)) j left
   pub here : term ≡ course m y x j
+  pub todo : (i : ℕ) → j ≤ i → at left i ≡ at rest i
 
 module _ {m : ℕ} {rest : List ℕ} {y x : ℕ} where
   pub taking_start : length rest ≡ 16 → Taking m rest y x 0 y rest
   unfolding course
-  taking_start e = record { done = filled_none 16 _ rest e; here = refl }
+  taking_start e = record { done = filled_none 16 _ rest e; here = refl; todo = λ i h. refl }
 
   pub taking_turn : {j term next : ℕ} {left : List ℕ} → j < 16 → next ≡ prod m term x → Taking m rest y x j term left
-      → Taking m rest y x (j + 1) next (set left j (bit_xor (at rest j) term))
+      → Taking m rest y x (j + 1) next (set left j (bit_xor (at left j) term))
   unfolding course
-  taking_turn {j} {term} l e o = record {
-    done = filled_more 16 _ j _ _ l (rw o.here) o.done;
+  taking_turn {j} {term} {left = left} l e o = record {
+    done = filled_more 16 _ j _ _ l (rw (o.here, o.todo j (omega arith))) o.done;
     here = rw (add-one, e, mul_comm (K m) term x, o.here);
+    todo = λ i h. get_or-set_other left j i _ 0 (omega arith) ∙ o.todo i (omega arith);
   }
 
   pub taking_end : {j term : ℕ} {left : List ℕ} → 16 ≤ j → Taking m rest y x j term left → TakenOut m rest y x left

@@ -39,19 +39,17 @@ pub fn error_value(
     times(m, rest[0], inverse_at(m, far))
 }
 
-// The power sums without those of one symbol: y, y x, y x^2, ..
-fn take_out(m: usize, rest: [u8; 16], y: u8, x: u8) -> [u8; 16]
-    ensures { TakenOut m rest y x result }
+// Takes those of one symbol out of the power sums: y, y x, y x^2, ..
+fn take_out(m: usize, rest: &mut [u8; 16], y: u8, x: u8)
+    requires { length rest.old ≡ 16 }
+    ensures size { length rest.new ≡ 16 }
+    ensures taken { TakenOut m rest.old y x rest.new }
 {
-    let mut left = rest;
     let mut term = y;
-    let mut j = 0;
-    while j < 16 {
-        left[j] = rest[j] ^ term;
+    for sum in rest.iter_mut() {
+        *sum ^= term;
         term = times(m, term, x);
-        j += 1;
     }
-    left
 }
 
 // Takes the errors out of the flagged places of a word with these power sums, and gives the power sums of what it leaves: they tell
@@ -72,16 +70,13 @@ pub fn correct(
     let mut places: [u8; 255] = [0; 255];
     let count = list(n, flags, &mut places);
     let mut rest = sums;
-    let mut i = 0;
-    while i < n {
+    for i in 0..n {
         if flags[i] != 0 {
             let x = locators[i];
             let e = error_value(m, n, b, locators, &places, count, sums, i);
-            word[i] = word[i] ^ e;
-            let left = take_out(m, rest, times(m, e, weight(b, x)), x);
-            rest = left;
+            word[i] ^= e;
+            take_out(m, &mut rest, times(m, e, weight(b, x)), x);
         }
-        i += 1;
     }
     rest
 }

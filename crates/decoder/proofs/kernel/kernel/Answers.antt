@@ -10,15 +10,6 @@ pub loop-j-init : goal.loop-j-init
 unfolding each
 loop-j-init c = (omega arith, eliminated_none _ _ _ _ _ (omega arith) c.units-v.ensures refl tt)
 
-pub eliminate-requires : goal.eliminate-requires
-eliminate-requires c = record { d_bound = omega arith; eliminated = c.loop-j.invariant.1 }
-
-pub loop-j-preserved : goal.loop-j-preserved
-loop-j-preserved c = (omega arith, c.eliminate.ensures)
-
-pub first-s-requires : goal.first-s-requires
-first-s-requires c = (omega arith, omega (arith, c.loop-j.invariant.1.many))
-
 pub returns : goal.returns
 returns c =
     let o = c.loop-j in

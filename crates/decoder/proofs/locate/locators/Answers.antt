@@ -17,6 +17,3 @@ loop-i-preserved c =
       c.double-x.ensures ∙ locator_next a.m a.n o.i o.x u o.invariant.0 o.invariant.1,
       backed_more a.m a.n o.i o.table o.x u o.invariant.0 v o.invariant.1 o.invariant.2,
     )
-
-pub returns : goal.returns
-returns c = record { entry = λ k l. c.loop-i.invariant.2.last k (omega arith) l }

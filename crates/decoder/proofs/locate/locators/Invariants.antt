@@ -7,6 +7,3 @@ use Rattle.decoder.proofs.locate.locators.Given as goal
 
 abbrev pub invariant-loop-i : goal.invariant-loop-i
 invariant-loop-i l = (l.i ≤ l.n) × (l.x ≡ locator l.m (l.n - l.i)) × Backed l.m l.n l.i l.table
-
-abbrev pub decreases-loop-i : goal.decreases-loop-i
-decreases-loop-i l = l.i

@@ -10,12 +10,6 @@ pub loop-s-init : goal.loop-s-init
 unfolding from
 loop-s-init c = (omega arith, λ flags h. nearing_start)
 
-pub overflow_cast-i : goal.overflow_cast-i
-overflow_cast-i c = omega (arith, c.requires.n_bound.3 c.loop-s.s (omega arith))
-
-pub bounds-locators-i : goal.bounds-locators-i
-bounds-locators-i c = omega (arith, c.requires.n_bound.3 c.loop-s.s (omega arith))
-
 pub loop-s-preserved : goal.loop-s-preserved
 loop-s-preserved c =
     let o = c.loop-s in

@@ -1,6 +1,5 @@
 -- `decoder::peel::list` meets its contract. The loop's invariant (`Listed`): the flagged places before i are listed. The measure is the number
 -- of places left.
-use mathlib.Core.Path.{◌≡◌}
 use native.Mathlib.Omega.{arith}
 use lib.ListN.{length-set}
 use Rattle.decoder.specs.Listing.{listed_none, listed_pass, listed_add}
@@ -10,9 +9,6 @@ use Rattle.decoder.proofs.peel.list.Goals.{then-flags-i-ne0, else-flags-i-ne0}
 pub loop-i-init : goal.loop-i-init
 loop-i-init c = (omega arith, omega arith, omega arith, listed_none _ _)
 
-pub bounds-places-count : goal.bounds-places-count
-bounds-places-count c = omega (arith, c.loop-i.invariant.2)
-
 pub loop-i-preserved : goal.loop-i-preserved
 loop-i-preserved c =
     let o = c.loop-i in
@@ -20,8 +16,3 @@ loop-i-preserved c =
       | then-flags-i-ne0 w ↦ rw (w.places-is, w.count-is) (omega arith, omega arith, omega (arith, length-set o.places o.count o.i, o.invariant.2), listed_add (omega arith) (omega (arith, o.invariant.2)) o.invariant.3)
       | else-flags-i-ne0 w ↦ rw (w.places-is, w.count-is) (omega arith, omega arith, o.invariant.2, listed_pass (omega arith) o.invariant.3)
     ]
-
-pub returns : goal.returns
-returns c =
-    let e : c.loop-i.i ≡ c.args.n = omega arith in
-    (omega arith, rw e at c.loop-i.invariant.3)
