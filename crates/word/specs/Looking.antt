@@ -21,13 +21,14 @@ use Rattle.word.specs.Answers.{figures}
 use Rattle.word.specs.Refusals.{Checked, WordChecked}
 use Rattle.word.specs.Completion.{codeword_from}
 use Rattle.word.specs.Encoding.{clean_is_codeword, codeword_is_clean}
+use Rattle.checks.specs.declared.register.Tables.{Tables}
 use Rattle.word.specs.declared.Setting.{Setting}
 use Rattle.word.specs.declared.Figures.{Figures}
 use Rattle.word.specs.declared.look.Look.{Look}
 
 -- the tables are those of the setting's code
-abbrev pub Tabled : Setting → List ℕ → List ℕ → Type 0
-Tabled s low high = Prepared s.m s.b s.r low high
+abbrev pub Tabled : Setting → Tables → Type 0
+Tabled s tables = Prepared s.m s.b s.r tables.low tables.high
 
 -- a word whose symbols stand `step` apart in the slots, from the one at `first` on
 abbrev pub standing : Setting → (step first : ℕ) → List ℕ → List ℕ

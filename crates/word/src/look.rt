@@ -10,7 +10,7 @@ use crate::count::count_marks;
 use crate::{Figures, Setting};
 use buffers::all_below;
 use checks::left::{left_over, padded};
-use checks::register::{check_symbols, check_symbols_by};
+use checks::register::{Tables, check_symbols, check_symbols_by};
 
 // What a look tells: a word is lost where it has more marks than check symbols, and clean where it leaves nothing over.
 #[derive(Drop)]
@@ -78,14 +78,8 @@ pub fn look_at(s: Setting, received: &[u8], marks: &[u8]) -> Look
 }
 
 // The same by tables that were made before.
-pub fn look_by(
-    s: Setting,
-    low: &[u64; 128],
-    high: &[u64; 128],
-    received: &[u8],
-    marks: &[u8],
-) -> Look
-    requires { Checked s marks.now received.now × Tabled s low.now high.now }
+pub fn look_by(s: Setting, tables: &Tables, received: &[u8], marks: &[u8]) -> Look
+    requires { Checked s marks.now received.now × Tabled s tables.now }
     ensures { Looked s marks.now received.now result }
 {
     let f = count_marks(marks);
@@ -93,6 +87,6 @@ pub fn look_by(
         return overmarked(f);
     }
     let k = s.n - s.r;
-    let checks = check_symbols_by(s.r, low, high, &received[0..k]);
+    let checks = check_symbols_by(s.r, tables, &received[0..k]);
     compared(s, f, checks, received)
 }
