@@ -8,7 +8,7 @@ ghost use Rattle.word.specs.Codeword.{is_codeword};
 ghost use Rattle.word.specs.Looking.{Tabled, Stands, standing};
 ghost use Rattle.word.specs.Promises.{DecodesPart};
 
-use crate::look::look_by;
+use crate::look::look_at;
 use crate::{DecodeError, Figures, Setting, to_part};
 use buffers::join;
 use checks::left::agree;
@@ -44,7 +44,7 @@ pub fn decode_part_by(
     requires { Checked s marks.now received.now × Tabled s tables.now × (length part.old ≡ message_size s) × (length map.old ≡ s.n) }
     ensures { DecodesPart s received.now marks.now part.old map.old result part.new map.new }
 {
-    let seen = look_by(s, tables, received, marks);
+    let seen = look_at(s, tables, received, marks);
     to_part(s, seen, received, marks, part, map)
 }
 
