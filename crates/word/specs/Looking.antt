@@ -104,10 +104,6 @@ pub record Looked (s : Setting) (marks received : List ℕ) (r : Look) : Type 0 
   pub fine : Checked s marks received
   pub told : Told s marks received r
 
--- a front of r entries, as the code takes it
-pub front_of : (r : ℕ) (w : List ℕ) → take (r - 0) w ≡ take r w
-front_of r w = let e : r - 0 ≡ r = omega arith in ap (λ (k : ℕ). take k w) e
-
 -- the test of what is left over, and of all that stands behind it
 nothing_left : (r : ℕ) (rest : List ℕ) → true ≡ below 1 rest → T (below 1 (take r rest))
 nothing_left r rest e = (below_split 1 (take r rest) (drop r rest) (rw (take-append-drop r rest, ← e) tt)).0

@@ -77,6 +77,6 @@ pub fn correct_word(
 {
     copy(received, out);
     let r = s.r;
-    let sums = syndromes(s.m, s.b, &rest[0..r]);
+    let sums = syndromes(s.m, s.b, &rest[..r]);
     correct_errors(s, received, marks, f, sums, out)
 }

@@ -101,7 +101,7 @@ fn answer(
     ensures { Answered s received.now marks.now map.old work.new result map.new }
 {
     let n = s.n;
-    let figures = correct_word(s, f, rest, received, marks, &mut work[0..n]).ok_or(
+    let figures = correct_word(s, f, rest, received, marks, &mut work[..n]).ok_or(
         DecodeError::BeyondReach,
     )?;
     note_changes(received, work, map);

@@ -1,6 +1,6 @@
 -- `in_place` meets its contract: the map is cleared first; a clean word is its own correction, and else `answer` says what the paper says, and an
 -- accepted word is copied over the received one.
-use mathlib.Core.Path.{◌≡◌, sym, ◌∙◌}
+use mathlib.Core.Path.{sym, ◌∙◌}
 use native.Mathlib.Omega.{arith}
 use Rattle.std.proofs.lemmas.Result.{err_from_is_err_and}
 use Rattle.word.specs.Setting.{limits, at_most}

@@ -1,6 +1,6 @@
 -- `to_part` meets its contract: the map is cleared first; the message of a clean word is its front, and else `answer` says what the paper says,
 -- and the front of an accepted word is copied to the part.
-use mathlib.Core.Path.{◌≡◌, sym, ◌∙◌}
+use mathlib.Core.Path.{sym, ◌∙◌}
 use native.Mathlib.Omega.{arith}
 use Rattle.std.proofs.lemmas.Result.{err_from_is_err_and}
 use Rattle.word.specs.Setting.{limits, at_most}

@@ -1,7 +1,6 @@
 -- `correct_word` meets its contract: the power sums of what is left over are the word's own, and `correct_errors` promises the rest.
 use native.Mathlib.Omega.{arith}
 use Rattle.word.specs.Setting.{limits}
-use Rattle.word.specs.Looking.{front_of}
 use Rattle.word.specs.Correcting.{copied, summed}
 use Rattle.word.proofs.correct.correct_word.Goals as goal
 
@@ -17,6 +16,6 @@ syndromes-sums-requires c = (limits _ c.requires.0.checked.setting).start
 pub correct_errors-requires : goal.correct_errors-requires
 correct_errors-requires c =
     let k = c.requires.0 in (
-      summed _ _ _ _ _ _ k (rw front_of at c.syndromes-sums.ensures),
+      summed _ _ _ _ _ _ k c.syndromes-sums.ensures,
       copied c.args.out.now c.args.received.now _ _ c.requires.1 k.checked.size c.copy.ensures,
     )

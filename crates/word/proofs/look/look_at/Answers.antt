@@ -1,5 +1,5 @@
 -- `look_at` meets its contract: more marks than check symbols are one law of `Looked`; message and check symbols are the word, and what it leaves over are the others.
-use mathlib.Core.Path.{◌≡◌, refl, sym, ap, ◌∙◌, subst}
+use mathlib.Core.Path.{◌≡◌, sym, ap, ◌∙◌, subst}
 use mathlib.Core.List.{List, ◌++◌}
 use Prim.Native.Nat.{ℕ, ◌-◌, ◌≤◌}
 use native.Mathlib.Omega.{arith}
