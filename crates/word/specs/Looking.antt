@@ -1,7 +1,7 @@
 -- The first look at a received word: its marks counted, and what it leaves of its message's check symbols. And the tables by which many words
 -- are looked at.
 -- Assumes nothing.
-use Rattle.std.specs.Prelude.{◌≡◌, refl, Bool, true, false, List, ℕ, ◌+◌, ◌-◌, ◌*◌, ◌^◌, ◌≤◌, ◌<◌, T, length, take, drop}
+use Rattle.std.specs.Prelude.{◌≡◌, refl, Bool, true, false, List, ℕ, ◌+◌, ◌*◌, ◌^◌, ◌≤◌, ◌<◌, T, length, take, drop}
 use Rattle.std.proofs.Math.Path.{sym, ap}
 use Rattle.std.proofs.Common.{◌∙◌, subst, arith, length-drop, take-append-drop, ext_get_or, length-take-le, get_or-take}
 use Rattle.std.proofs.Math.Option.{some, none}

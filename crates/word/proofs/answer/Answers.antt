@@ -1,5 +1,6 @@
 -- `answer` meets its contract: the front of the work space is what `correct_word` worked on, and its changes are the map.
-use mathlib.Core.Path.{◌≡◌}
+use mathlib.Core.Path.{◌≡◌, sym}
+use lib.Seq.{length-take-le}
 use native.Mathlib.Omega.{arith}
 use Rattle.std.proofs.lemmas.Result.{err_from_is_err_and}
 use Rattle.word.specs.declared.DecodeError.TheVariants.{BeyondReach}
@@ -12,6 +13,11 @@ pub slice_bounds-correct_word-end : goal.slice_bounds-correct_word-end
 slice_bounds-correct_word-end c =
     let pre = c.requires in
     omega (arith, pre.1, at_most _ (limits _ pre.0.checked.setting))
+
+pub slice_bounds-correct_word-end-2 : goal.slice_bounds-correct_word-end-2
+slice_bounds-correct_word-end-2 c =
+    let pre = c.requires in
+    sym (length-take-le _ _ (omega (arith, pre.1, at_most _ (limits _ pre.0.checked.setting))))
 
 pub correct_word-requires : goal.correct_word-requires
 correct_word-requires c =

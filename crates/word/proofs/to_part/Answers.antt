@@ -28,7 +28,7 @@ returns-in-Clean c =
 pub answer-requires : goal.answer-requires
 answer-requires c =
     let pre = c.requires in
-    (rw c.in-Damaged.is at pre.0.told, c.work_space-work.ensures, search rules)
+    (rw c.in-Damaged.is at pre.0.told, search rules, search rules)
 
 pub returns-in_err-figures-in-Damaged : goal.returns-in_err-figures-in-Damaged
 returns-in_err-figures-in-Damaged c =

@@ -1,5 +1,7 @@
 -- `correct_word` meets its contract: the power sums of what is left over are the word's own, and `correct_errors` promises the rest.
+use mathlib.Core.Path.{sym}
 use native.Mathlib.Omega.{arith}
+use lib.Seq.{length-take-le}
 use Rattle.word.specs.Setting.{limits}
 use Rattle.word.specs.Correcting.{copied, summed}
 use Rattle.word.proofs.correct.correct_word.Goals as goal
@@ -7,8 +9,11 @@ use Rattle.word.proofs.correct.correct_word.Goals as goal
 pub copy-requires : goal.copy-requires
 copy-requires c = omega (arith, c.requires.0.checked.size, c.requires.1)
 
+pub slice_bounds-rest-end : goal.slice_bounds-rest-end
+slice_bounds-rest-end c = omega (arith, (limits _ c.requires.0.checked.setting).high)
+
 pub slice_bounds-syndromes-end : goal.slice_bounds-syndromes-end
-slice_bounds-syndromes-end c = omega (arith, (limits _ c.requires.0.checked.setting).high)
+slice_bounds-syndromes-end c = sym (length-take-le _ _ (omega (arith, (limits _ c.requires.0.checked.setting).high)))
 
 pub syndromes-sums-requires : goal.syndromes-sums-requires
 syndromes-sums-requires c = (limits _ c.requires.0.checked.setting).start
