@@ -6,6 +6,8 @@ ghost use Rattle.algebra.specs.Xor.{◌⊕◌};
 ghost use Rattle.algebra.specs.Tests.{at, total, below};
 ghost use Rattle.word.specs.Figures.{error_of, errors, bits};
 
+use crate::Figures;
+
 // 1 where a place is unmarked and its two symbols differ, else 0.
 fn error_at(mark: u8, x: u8, y: u8) -> usize
     ensures { (result ≡ error_of mark x y) × (result ≤ 1) }
@@ -54,4 +56,16 @@ pub fn count_bits(received: &[u8], word: &[u8]) -> usize
         sum += bits_at(*x, *y);
     }
     sum
+}
+
+// The figures of a word with e wrong symbols, f marks and so many changed bits.
+pub fn figures(e: usize, f: usize, bits: usize) -> Figures
+    requires { (e ≤ 255) × (f ≤ 255) × (bits ≤ 8 * 255) }
+    ensures { result ≡ record { errors = e; marked = f; bits = bits } }
+{
+    Figures {
+        errors: e as u16,
+        marked: f as u16,
+        bits: bits as u16,
+    }
 }

@@ -47,7 +47,7 @@ returns-then-all_below c =
     let limit = limits _ given.setting in
     looked_clean _ _ _ given _ c.count_marks-f.ensures.0 (omega arith) _
     (left_cut _ _ _ _ _ (omega (arith, limit.room)) given.size _ _ _ limit.high (search rules) (c.check_symbols_by-checks.ensures.each _ _ c.requires.1) c.padded.ensures c.left_over-rest.ensures)
-    (sym c.if-all_below.true ∙ c.all_below.ensures) _ c.clean_figures.ensures
+    (sym c.if-all_below.true ∙ c.all_below.ensures) _ c.figures.ensures
 
 pub returns : goal.returns
 returns c =
