@@ -88,6 +88,7 @@ pub fn encode(s: Setting, message: &[u8], word: &mut [u8]) -> Result<(), InputEr
 }
 
 // What a damaged word is answered: its correction is put at the front of the work space and its map is written, where there is one.
+#[tactic(auto, using(crate::specs::Setting::in_limits))]
 fn answer(
     s: Setting,
     f: usize,
@@ -109,6 +110,7 @@ fn answer(
 }
 
 // Corrects a word that has been looked at where it stands. Nothing but the map is written unless it is damaged.
+#[tactic(auto, using(crate::specs::Setting::in_limits))]
 fn in_place(
     s: Setting,
     seen: Look,
@@ -134,6 +136,7 @@ fn in_place(
 
 // The same with the message put into a part of its own, and the received word only read. A function of its own, since `in_place` reads what it
 // writes, and leaves a clean word uncopied.
+#[tactic(auto, using(crate::specs::Setting::in_limits))]
 fn to_part(
     s: Setting,
     seen: Look,

@@ -18,6 +18,7 @@ pub enum Look {
 }
 
 // A look at a word that has passed the checks, by the tables of its setting.
+#[tactic(auto, using(crate::specs::Setting::in_limits))]
 pub fn look_at(s: Setting, tables: &Tables, received: &[u8], marks: &[u8]) -> Look
     requires { Checked s marks.now received.now × Tabled s tables.now }
     ensures { Looked s marks.now received.now result }
