@@ -15,11 +15,9 @@ returns-in_err-check c =
     let (ne, same) = failed line_error _ _ _ c.in_err-check.ensures in
     record { outcome = rw (p.1, p.2, same) (kept _ _ _ ne) }
 
-pub run-requires : goal.run-requires
-run-requires c = line_fine _ _ (passed line_error _ _ _ c.in_ok-check.ensures)
+pub run-position-requires : goal.run-position-requires
+run-position-requires c = line_fine _ _ (passed line_error _ _ _ c.in_ok-check.ensures)
 
 pub returns : goal.returns
 unfolding send_run
-returns c =
-    let z = sym c.run.ensures.steps in
-    record { outcome = rw (passed line_error _ _ _ c.in_ok-check.ensures, z, ← c.run.ensures.line) refl }
+returns c = record { outcome = rw (passed line_error _ _ _ c.in_ok-check.ensures, ← c.run-position.ensures) refl }
