@@ -54,6 +54,7 @@ pub struct Received {
 
 // The least number that each of 1 to branches - 1 divides. Arms, and no table: a table would be laid out anew at each call. Each number has
 // its own arm, so that the compiler makes one load of them all.
+#[tactic(auto, unfolding(crate::specs::Line::common))]
 fn common(branches: usize) -> usize
     ensures { result ≡ common branches }
 {
