@@ -1,5 +1,5 @@
 -- `receive_run` meets its contract: refused, all stays; else `Line::run` has made the steps, of the bytes and of the marks.
-use Rattle.std.proofs.Common.{refl, sym, ap, ◌∙◌}
+use Rattle.std.proofs.Common.{refl}
 use Rattle.std.proofs.lemmas.Result.{err_from_is_err_and}
 use Rattle.algebra.specs.Refusal.{kept}
 use Rattle.interleave.specs.Numbers.{line_error, passed, failed}

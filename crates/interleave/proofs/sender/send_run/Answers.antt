@@ -1,7 +1,6 @@
 -- `send_run` meets its contract: refused, all stays; else `Line::run` has made the steps.
-use Rattle.std.proofs.Common.{refl, sym, ap, ◌∙◌}
+use Rattle.std.proofs.Common.{refl}
 use Rattle.std.proofs.lemmas.Result.{err_from_is_err_and}
-use Rattle.rings.specs.Run.{Ran}
 use Rattle.algebra.specs.Refusal.{kept}
 use Rattle.interleave.specs.Numbers.{line_error, passed, failed}
 use Rattle.interleave.specs.Setting.{line_fine}

@@ -1,5 +1,4 @@
 -- `Line::run` meets its contract: it is what `run` promises of as many positions as the line has.
-use Rattle.std.proofs.Common.{refl}
 use Rattle.interleave.specs.Setting.{run_fits}
 use Rattle.interleave.proofs.line.Line.run.Goals as goal
 
