@@ -63,6 +63,7 @@ fn check_receive(
 // map too.
 // The map is that of the inner word of this frame, whatever becomes of the outer word: of a frame that is taken it gets 1 at each of the 32
 // places where the inner word was changed and 0 elsewhere, and it is all 0 where the inner word was refused.
+#[tactic(auto, using(crate::specs::Checks::receive_allowed))]
 pub fn receive(
     position: usize,
     memory: &mut [u8],

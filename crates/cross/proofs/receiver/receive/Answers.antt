@@ -6,31 +6,6 @@ use Rattle.cross.specs.Cross.{FrameOutcome, told}
 use Rattle.cross.specs.Checks.{receive_fine, told_back}
 use Rattle.cross.proofs.receiver.receive.Goals as goal
 
-pub open_inner-mark-requires : goal.open_inner-mark-requires
-open_inner-mark-requires c =
-    let f = receive_fine _ _ _ _ _ _ _ (sym (passed cross_error _ _ _ c.in_ok-check_receive.ensures)) refl in
-    search rules
-
-pub hold_back-requires : goal.hold_back-requires
-hold_back-requires c =
-    let f = receive_fine _ _ _ _ _ _ _ (sym (passed cross_error _ _ _ c.in_ok-check_receive.ensures)) refl in
-    search rules
-
-pub hold_back-requires-2 : goal.hold_back-requires-2
-hold_back-requires-2 c =
-    let f = receive_fine _ _ _ _ _ _ _ (sym (passed cross_error _ _ _ c.in_ok-check_receive.ensures)) refl in
-    search rules
-
-pub next-requires : goal.next-requires
-next-requires c =
-    let f = receive_fine _ _ _ _ _ _ _ (sym (passed cross_error _ _ _ c.in_ok-check_receive.ensures)) refl in
-    search rules
-
-pub settle-requires : goal.settle-requires
-settle-requires c =
-    let f = receive_fine _ _ _ _ _ _ _ (sym (passed cross_error _ _ _ c.in_ok-check_receive.ensures)) refl in
-    f.message_size_lem
-
 pub returns : goal.returns
 returns c =
     let z = passed cross_error _ _ _ c.in_ok-check_receive.ensures in
