@@ -19,7 +19,7 @@ ghost use Rattle.word.specs.Setting.{message_size};
 ghost use Rattle.word.specs.Looking.{Measured, Looked};
 ghost use Rattle.word.specs.Correcting.{Answered};
 
-use buffers::{copy, fill, join, work_space};
+use buffers::{copy, fill, filled, join};
 use checks::register::check_symbols;
 pub use clean::is_clean;
 use correct::correct_word;
@@ -101,7 +101,7 @@ fn answer(
     ensures { Answered s received.now marks.now map.old work.new result map.new }
 {
     let n = s.n;
-    let figures = correct_word(s, f, rest, received, marks, &mut work[0..n]).ok_or(
+    let figures = correct_word(s, f, rest, received, marks, &mut work[..n]).ok_or(
         DecodeError::BeyondReach,
     )?;
     note_changes(received, work, map);
@@ -124,7 +124,7 @@ fn in_place(
         Look::Lost => Err(DecodeError::BeyondReach),
         Look::Clean(figures) => Ok(figures),
         Look::Damaged { marked, rest } => {
-            let mut work = work_space();
+            let mut work: [u8; 255] = filled(0);
             let figures = answer(s, marked, rest, word, marks, &mut work, map)?;
             copy(&work, word);
             Ok(figures)
@@ -153,7 +153,7 @@ fn to_part(
             Ok(figures)
         }
         Look::Damaged { marked, rest } => {
-            let mut work = work_space();
+            let mut work: [u8; 255] = filled(0);
             let figures = answer(s, marked, rest, received, marks, &mut work, map)?;
             copy(&work, part);
             Ok(figures)

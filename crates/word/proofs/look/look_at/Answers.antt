@@ -1,5 +1,5 @@
 -- `look_at` meets its contract: more marks than check symbols are one law of `Looked`; message and check symbols are the word, and what it leaves over are the others.
-use mathlib.Core.Path.{◌≡◌, refl, sym, ap, ◌∙◌, subst}
+use mathlib.Core.Path.{◌≡◌, sym, ap, ◌∙◌, subst}
 use mathlib.Core.List.{List, ◌++◌}
 use Prim.Native.Nat.{ℕ, ◌-◌, ◌≤◌}
 use native.Mathlib.Omega.{arith}
@@ -47,7 +47,7 @@ returns-then-all_below c =
     let limit = limits _ given.setting in
     looked_clean _ _ _ given _ c.count_marks-f.ensures.0 (omega arith) _
     (left_cut _ _ _ _ _ (omega (arith, limit.room)) given.size _ _ _ limit.high (search rules) (c.check_symbols_by-checks.ensures.each _ _ c.requires.1) c.padded.ensures c.left_over-rest.ensures)
-    (sym c.if-all_below.true ∙ c.all_below.ensures) _ c.clean_figures.ensures
+    (sym c.if-all_below.true ∙ c.all_below.ensures) _ c.figures.ensures
 
 pub returns : goal.returns
 returns c =
