@@ -1,5 +1,5 @@
 -- `check_receive` meets its contract: the position goes first, then all lengths, then the marks of the memory.
-use Rattle.std.proofs.Common.{◌≡◌, ◌∙◌, Bool, false, T, ◌<◌, ◌+◌, ℕ, ap, refl, arith}
+use Rattle.std.proofs.Common.{◌∙◌, ◌<◌, ◌+◌, ℕ, ap, refl, arith}
 use Rattle.algebra.specs.Refusal.{need_yes, need_no, first_none}
 use Rattle.interleave.specs.Numbers.{answered, passed, first_refused, fails}
 use Rattle.cross.specs.Numbers.{cross_error}
