@@ -13,9 +13,9 @@ use crate::setting::{Framing, ReceiveError, Received, is_allowed, words_of};
 use crate::trailer::{is_good, two_at};
 use buffers::{all_below, fill, work_space};
 use interleave::slots::{put_word, take_word};
-use word::numbers::{figures_of, no_figures, number_of};
+use word::numbers::{figures_of, no_figures};
 use word::tables::{decode_part_by, no_table, prepare};
-use word::{Decoded, Figures};
+use word::{DecodeError, Figures};
 
 // What one word was found to have; no figures where it is refused.
 #[derive(Drop)]
@@ -32,12 +32,12 @@ pub struct Words {
 }
 
 // A word's answer without its reason: a frame tells only which word failed.
-fn without_reason(d: Decoded) -> Found
-    ensures { result ≡ found_of d }
+fn without_reason(answer: Result<Figures, DecodeError>) -> Found
+    ensures { result ≡ found_of answer }
 {
     Found {
-        accepted: number_of(d) == 0,
-        figures: figures_of(d),
+        accepted: answer.is_ok(),
+        figures: figures_of(answer),
     }
 }
 
@@ -89,7 +89,7 @@ fn receive_word(
     let marked = marks_of(f, plain, w, marks);
     let mut room = work_space();
     let changed = &mut room[..f.n];
-    let d = decode_part_by(
+    let answer = decode_part_by(
         words_of(f),
         low,
         high,
@@ -98,7 +98,7 @@ fn receive_word(
         part,
         changed,
     );
-    let found = without_reason(d);
+    let found = without_reason(answer);
     put_changes(f, w, found.figures.bits, changed, map);
     found
 }
