@@ -26,6 +26,18 @@ pub record SendChecked (f : Framing) (payload slots : List ℕ) : Type 0 where
   pub fits : length payload + 4 ≤ area_size f
 
 module _ (f : Framing) (payload slots : List ℕ) where
+  pub send_setting : allowed_frame f ≡ false → 1 ≡ send_refusal f payload slots
+  unfolding send_refusal
+  send_setting a = need_no _ _ _ λ t. rw a at t
+
+  pub send_length : FrameAllowed f → (length slots ≡ slot_count f → ⊥) → 2 ≡ send_refusal f payload slots
+  unfolding send_refusal
+  send_length a n = need_yes _ _ _ _ (is_allowed f a) (need_no _ _ _ n)
+
+  pub send_long : FrameAllowed f → length slots ≡ slot_count f → (length payload ≤ area_size f - 4 → ⊥) → 6 ≡ send_refusal f payload slots
+  unfolding send_refusal
+  send_long a n l = need_yes _ _ _ _ (is_allowed f a) (need_yes _ _ _ _ n (need_no _ _ _ l))
+
   pub send_checked : send_refusal f payload slots ≡ 0 → SendChecked f payload slots
   unfolding send_refusal
   send_checked e =
@@ -57,6 +69,28 @@ module _ (f : Framing) (slots marks area map : List ℕ) where
   pub receive_slots : allowed_frame f ≡ true → (length slots ≡ slot_count f → ⊥) → 2 ≡ receive_refusal f slots marks area map
   unfolding receive_refusal
   receive_slots a n = need_yes _ _ _ _ (rw a tt) (need_no _ _ _ n)
+
+  -- one of the four lengths is another
+  pub receive_length : FrameAllowed f → (length slots ≡ slot_count f → length marks ≡ slot_count f → length area ≡ area_size f → length map ≡ slot_count f → ⊥)
+      → 2 ≡ receive_refusal f slots marks area map
+  unfolding receive_refusal
+  receive_length a h =
+      need_yes _ _ _ _ (is_allowed f a) (elim (ℕ_discrete (length slots) (slot_count f)) [
+        | no n ↦ need_no _ _ _ n
+        | yes n ↦ need_yes _ _ _ _ n (elim (ℕ_discrete (length marks) (slot_count f)) [
+          | no m ↦ need_no _ _ _ m
+          | yes m ↦ need_yes _ _ _ _ m (elim (ℕ_discrete (length area) (area_size f)) [
+            | no k ↦ need_no _ _ _ k
+            | yes k ↦ need_yes _ _ _ _ k (need_no _ _ _ (h n m k))
+          ])
+        ])
+      ])
+
+  pub receive_mark : FrameAllowed f → length slots ≡ slot_count f → length marks ≡ slot_count f → length area ≡ area_size f → length map ≡ slot_count f → below 2 marks ≡ false
+      → 3 ≡ receive_refusal f slots marks area map
+  unfolding receive_refusal
+  receive_mark a n m k l b =
+      need_yes _ _ _ _ (is_allowed f a) (need_yes _ _ _ _ n (need_yes _ _ _ _ m (need_yes _ _ _ _ k (need_yes _ _ _ _ l (need_no _ _ _ λ t. rw b at t)))))
 
   pub receive_checked : receive_refusal f slots marks area map ≡ 0 → ReceiveChecked f slots marks area map
   unfolding receive_refusal
@@ -98,6 +132,14 @@ pub record CleanChecked (f : Framing) (slots : List ℕ) : Type 0 where
   pub slots_size : length slots ≡ slot_count f
 
 module _ (f : Framing) (slots : List ℕ) where
+  pub clean_setting : allowed_frame f ≡ false → 1 ≡ clean_refusal f slots
+  unfolding clean_refusal
+  clean_setting a = need_no _ _ _ λ t. rw a at t
+
+  pub clean_length : FrameAllowed f → (length slots ≡ slot_count f → ⊥) → 2 ≡ clean_refusal f slots
+  unfolding clean_refusal
+  clean_length a n = need_yes _ _ _ _ (is_allowed f a) (need_no _ _ _ n)
+
   pub clean_checked : clean_refusal f slots ≡ 0 → CleanChecked f slots
   unfolding clean_refusal
   clean_checked e =

@@ -9,12 +9,12 @@ ghost use Rattle.frame.specs.Checks.{ReceiveChecked};
 ghost use Rattle.frame.specs.Mapping.{Blank, Spare};
 ghost use Rattle.frame.specs.Decoding.{found_of, Plain, WordGiven, WordPut, Collected};
 
-use crate::setting::{Framing, ReceiveError, Received, is_allowed, words_of};
+use crate::setting::{Framing, ReceiveError, Received, is_allowed};
 use crate::trailer::{is_good, two_at};
 use buffers::{all_below, fill, work_space};
 use interleave::slots::{put_word, take_word};
 use word::numbers::{figures_of, no_figures};
-use word::tables::{decode_part_by, no_table, prepare};
+use word::tables::{Tables, decode_part_by, prepare};
 use word::{DecodeError, Figures};
 
 // What one word was found to have; no figures where it is refused.
@@ -73,8 +73,7 @@ fn put_changes(f: Framing, w: usize, bits: u16, changed: &[u8], map: &mut [u8])
 // Decodes word w into its part of the area, by the tables of all words, and maps where it was changed.
 fn receive_word(
     f: Framing,
-    low: &[u64; 128],
-    high: &[u64; 128],
+    tables: &Tables,
     plain: bool,
     w: usize,
     slots: &[u8],
@@ -82,7 +81,7 @@ fn receive_word(
     part: &mut [u8],
     map: &mut [u8],
 ) -> Found
-    requires { WordGiven f w slots.now marks.now part.old map.old × Tabled (word_setting f) low.now high.now × Plain plain marks.now }
+    requires { WordGiven f w slots.now marks.now part.old map.old × Tabled (word_setting f) tables.now × Plain plain marks.now }
     ensures { WordPut f w slots.now marks.now map.old result part.new map.new }
 {
     let word = take_word(f.depth, f.n, w, slots);
@@ -90,9 +89,8 @@ fn receive_word(
     let mut room = work_space();
     let changed = &mut room[..f.n];
     let answer = decode_part_by(
-        words_of(f),
-        low,
-        high,
+        f.words(),
+        tables,
         &word[..f.n],
         &marked[..f.n],
         part,
@@ -106,15 +104,14 @@ fn receive_word(
 // Decodes each word into its part of the area and its slots of the map, which is cleared before, up to the first that is refused.
 fn receive_words(
     f: Framing,
-    low: &[u64; 128],
-    high: &[u64; 128],
+    tables: &Tables,
     plain: bool,
     slots: &[u8],
     marks: &[u8],
     area: &mut [u8],
     map: &mut [u8],
 ) -> Words
-    requires { ReceiveChecked f slots.now marks.now area.old map.old × Tabled (word_setting f) low.now high.now × Plain plain marks.now }
+    requires { ReceiveChecked f slots.now marks.now area.old map.old × Tabled (word_setting f) tables.now × Plain plain marks.now }
     ensures { Collected f slots.now marks.now result area.new map.new }
 {
     fill(map, 0);
@@ -123,7 +120,7 @@ fn receive_words(
     for w in 0..f.depth {
         let a = w * k;
         let part = &mut area[a..a + k];
-        let found = receive_word(f, low, high, plain, w, slots, marks, part, map);
+        let found = receive_word(f, tables, plain, w, slots, marks, part, map);
         if !found.accepted {
             return Words {
                 accepted: w,
@@ -179,11 +176,10 @@ fn receive_checked(
     requires { ReceiveChecked f slots.now marks.now area.old map.old }
     ensures { receive_outcome result area.new map.new ≡ decoded_frame f slots.now marks.now }
 {
-    let mut low = no_table();
-    let mut high = no_table();
-    prepare(words_of(f), &mut low, &mut high);
+    let mut tables = Tables::none();
+    prepare(f.words(), &mut tables);
     let plain = all_below(marks, 1);
-    let words = receive_words(f, &low, &high, plain, slots, marks, area, map);
+    let words = receive_words(f, &tables, plain, slots, marks, area, map);
     if words.accepted < f.depth {
         clear(area, map);
         return Err(ReceiveError::BeyondReach(words.accepted as u8));
@@ -205,16 +201,8 @@ fn check_receive(
     if !is_allowed(f) {
         return Err(ReceiveError::BadSetting);
     }
-    if slots.len() != f.n * f.depth {
-        return Err(ReceiveError::BadLength);
-    }
-    if marks.len() != f.n * f.depth {
-        return Err(ReceiveError::BadLength);
-    }
-    if area.len() != f.depth * (f.n - f.r) {
-        return Err(ReceiveError::BadLength);
-    }
-    if map.len() != f.n * f.depth {
+    let size = f.slots();
+    if slots.len() != size || marks.len() != size || area.len() != f.area() || map.len() != size {
         return Err(ReceiveError::BadLength);
     }
     if !all_below(marks, 2) {

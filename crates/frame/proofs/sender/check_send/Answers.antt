@@ -1,43 +1,29 @@
 -- `check_send` meets its contract: each return is the first need that is not met, or, at the end, all are.
-use mathlib.Core.Path.{refl}
+use mathlib.Core.Path.{sym, ◌∙◌}
 use native.Mathlib.Omega.{arith}
-use Rattle.algebra.specs.Tests.{passed}
-use Rattle.algebra.specs.Refusal.{need_yes, need_no, test_yes, test_no}
-use Rattle.frame.specs.Frame.Limits.{frame_kept, area_few, slots_few}
-use Rattle.frame.specs.Frame.{send_refusal}
+use Rattle.frame.specs.Frame.Limits.{small, frame_kept}
+use Rattle.frame.specs.Checks.{send_setting, send_length, send_long, send_passes}
 use Rattle.frame.proofs.sender.check_send.Goals as goal
 
 pub returns-then-not-is_allowed : goal.returns-then-not-is_allowed
-unfolding send_refusal
-returns-then-not-is_allowed c = need_no _ _ _ (test_no _ _ c.is_allowed.ensures c.if-not-is_allowed.true-raw)
+returns-then-not-is_allowed c = send_setting _ _ _ (sym c.is_allowed.ensures ∙ c.if-not-is_allowed.true)
 
-pub overflow_mul-f : goal.overflow_mul-f
-overflow_mul-f c =
-    omega (arith, slots_few _ (frame_kept _ (passed _ (test_yes _ _ c.is_allowed.ensures c.if-not-is_allowed.false-raw))))
+pub slots-requires : goal.slots-requires
+slots-requires c = small _ (frame_kept _ (sym c.is_allowed.ensures ∙ c.if-not-is_allowed.false))
 
-pub returns-then-slots-f : goal.returns-then-slots-f
-unfolding send_refusal
-returns-then-slots-f c =
-    need_yes _ _ _ _ (test_yes _ _ c.is_allowed.ensures c.if-not-is_allowed.false-raw) (need_no _ _ _ c.if-slots-f.true)
+pub returns-then-slots : goal.returns-then-slots
+returns-then-slots c = send_length _ _ _ (frame_kept _ (sym c.is_allowed.ensures ∙ c.if-not-is_allowed.false)) λ e. omega arith
 
-pub overflow_sub-f : goal.overflow_sub-f
-overflow_sub-f c =
-    omega (arith, (frame_kept _ (passed _ (test_yes _ _ c.is_allowed.ensures c.if-not-is_allowed.false-raw))).words.room)
+pub area-requires : goal.area-requires
+area-requires c = small _ (frame_kept _ (sym c.is_allowed.ensures ∙ c.if-not-is_allowed.false))
 
-pub overflow_mul-f-2 : goal.overflow_mul-f-2
-overflow_mul-f-2 c =
-    omega (arith, area_few _ (frame_kept _ (passed _ (test_yes _ _ c.is_allowed.ensures c.if-not-is_allowed.false-raw))))
+pub overflow_sub-area : goal.overflow_sub-area
+overflow_sub-area c = omega (arith, (frame_kept _ (sym c.is_allowed.ensures ∙ c.if-not-is_allowed.false)).room)
 
-pub overflow_sub-f-2 : goal.overflow_sub-f-2
-overflow_sub-f-2 c =
-    omega (arith, (frame_kept _ (passed _ (test_yes _ _ c.is_allowed.ensures c.if-not-is_allowed.false-raw))).room)
-
-pub returns-then-f-payload : goal.returns-then-f-payload
-unfolding send_refusal
-returns-then-f-payload c =
-    need_yes _ _ _ _ (test_yes _ _ c.is_allowed.ensures c.if-not-is_allowed.false-raw) (need_yes _ _ _ _ c.if-slots-f.false (need_no _ _ _ λ l. omega arith))
+pub returns-then-area-payload : goal.returns-then-area-payload
+returns-then-area-payload c = send_long _ _ _ (frame_kept _ (sym c.is_allowed.ensures ∙ c.if-not-is_allowed.false)) (omega arith) λ e. omega arith
 
 pub returns : goal.returns
-unfolding send_refusal
 returns c =
-    need_yes _ _ _ _ (test_yes _ _ c.is_allowed.ensures c.if-not-is_allowed.false-raw) (need_yes _ _ _ _ c.if-slots-f.false (need_yes _ _ _ _ c.if-f-payload.false refl))
+    let limits = frame_kept _ (sym c.is_allowed.ensures ∙ c.if-not-is_allowed.false) in
+    send_passes _ _ _ record { limits = limits; slots_size = omega arith; fits = omega (arith, limits.room) }
