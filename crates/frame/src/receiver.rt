@@ -1,43 +1,95 @@
 // Receiving a frame: document 01, section Block interleaver and frame. Its words are decoded into a lent message area, which then holds the
 // payload; and where they were changed goes to a lent map, slot by slot: document 02, No. 6.
-ghost use Rattle.std.specs.Prelude.{◌≡◌, ◌≤◌, length, replicate};
+ghost use Rattle.std.specs.Prelude.{◌≡◌, ◌<◌, ◌≤◌, true, length, replicate};
+ghost use Rattle.algebra.specs.Tests.{below};
 ghost use Rattle.word.specs.Looking.{Tabled};
 ghost use Rattle.interleave.specs.Slots.{HasWord, TakesWord, PutsWord};
-ghost use Rattle.frame.specs.Frame.{word_setting, number_of, receive_outcome, settled, decoded_frame, receive_refusal};
+ghost use Rattle.frame.specs.Frame.{word_setting, slot_count, area_size, number_of, receive_outcome, settled, decoded_frame, receive_refusal};
 ghost use Rattle.frame.specs.Promises.{Receives};
+ghost use Rattle.frame.specs.Frame.Limits.{FrameAllowed};
 ghost use Rattle.frame.specs.Checks.{ReceiveChecked};
 ghost use Rattle.frame.specs.Mapping.{Blank, Spare};
-ghost use Rattle.frame.specs.Decoding.{found_of, Plain, WordGiven, WordPut, Collected};
+ghost use Rattle.frame.specs.Decoding.{WordGiven, WordTold, Collected};
 
 use crate::setting::{Framing, ReceiveError, Received, is_allowed};
 use crate::trailer::{is_good, two_at};
 use buffers::{all_below, fill, work_space};
 use interleave::slots::{put_word, take_word};
-use word::numbers::{figures_of, no_figures};
+use word::Figures;
+use word::numbers::no_figures;
 use word::tables::{Tables, decode_part_by, prepare};
-use word::{DecodeError, Figures};
 
-// What one word was found to have; no figures where it is refused.
+// A received frame that has passed the checks, with what all its words have in common: the tables of their setting, and whether no mark is set
+// at all.
 #[derive(Drop)]
-pub struct Found {
-    pub accepted: bool,
-    pub figures: Figures,
+struct Arrived<'a> {
+    f: Framing,
+    tables: &'a Tables,
+    slots: &'a [u8],
+    marks: &'a [u8],
+    plain: bool,
+    ghost limits: { FrameAllowed f },
+    ghost slots_size: { length slots.now ≡ slot_count f },
+    ghost marks_size: { length marks.now ≡ slot_count f },
+    ghost marks_small: { below 2 marks.now ≡ true },
+    ghost tabled: { Tabled (word_setting f) tables.now },
+    ghost plain_is: { plain ≡ below 1 marks.now },
 }
 
-// What the words were found to have: how many from the first on were accepted, and the figures of these.
-#[derive(Drop)]
-pub struct Words {
-    pub accepted: usize,
-    pub figures: [Figures; 16],
-}
+impl Arrived<'_> {
+    // The marks of word w. They are not gathered from their slots where the frame is plain.
+    fn marks_of(&self, w: usize) -> [u8; 255]
+        requires { w < self.now.f.depth }
+        ensures { TakesWord self.now.f.depth self.now.f.n w self.now.marks.now result }
+    {
+        if self.plain {
+            return no_marks();
+        }
+        take_word(self.f.depth, self.f.n, w, self.marks)
+    }
 
-// A word's answer without its reason: a frame tells only which word failed.
-fn without_reason(answer: Result<Figures, DecodeError>) -> Found
-    ensures { result ≡ found_of answer }
-{
-    Found {
-        accepted: answer.is_ok(),
-        figures: figures_of(answer),
+    // Decodes word w into its part of the area, and maps where it was changed.
+    fn receive_word(&self, w: usize, part: &mut [u8], map: &mut [u8]) -> Option<Figures>
+        requires { WordGiven self.now.f w part.old map.old }
+        ensures { WordTold self.now.f w self.now.slots.now self.now.marks.now map.old result part.new map.new }
+    {
+        let f = self.f;
+        let word = take_word(f.depth, f.n, w, self.slots);
+        let marked = self.marks_of(w);
+        let mut room = work_space();
+        let changed = &mut room[..f.n];
+        let answer = decode_part_by(
+            f.words(),
+            self.tables,
+            &word[..f.n],
+            &marked[..f.n],
+            part,
+            changed,
+        );
+        let Ok(own) = answer else {
+            return None;
+        };
+        put_changes(f, w, own.bits, changed, map);
+        Some(own)
+    }
+
+    // Decodes each word into its part of the area and its slots of the map, which is cleared before; or tells the first word that is refused.
+    fn receive_words(&self, area: &mut [u8], map: &mut [u8]) -> Result<[Figures; 16], u8>
+        requires { (length area.old ≡ area_size self.now.f) × (length map.old ≡ slot_count self.now.f) }
+        ensures { Collected self.now.f self.now.slots.now self.now.marks.now result area.new map.new }
+    {
+        fill(map, 0);
+        let k = self.f.message();
+        let mut figures = [no_figures(); 16];
+        for w in 0..self.f.depth {
+            let a = w * k;
+            let part = &mut area[a..a + k];
+            let Some(own) = self.receive_word(w, part, map) else {
+                return Err(w as u8);
+            };
+            figures[w] = own;
+        }
+        Ok(figures)
     }
 }
 
@@ -46,17 +98,6 @@ fn no_marks() -> [u8; 255]
     ensures { result ≡ replicate 255 0 }
 {
     [0; 255]
-}
-
-// The marks of word w. They are not gathered from their slots where the frame is plain, which is to say that no mark is set.
-fn marks_of(f: Framing, plain: bool, w: usize, marks: &[u8]) -> [u8; 255]
-    requires { HasWord f.depth f.n w (length marks.now) × Plain plain marks.now }
-    ensures { TakesWord f.depth f.n w marks.now result }
-{
-    if plain {
-        return no_marks();
-    }
-    take_word(f.depth, f.n, w, marks)
 }
 
 // Puts a word's map into its slots of the frame's, which are 0 before. Without changed bits it is all 0, and there is nothing to put.
@@ -68,72 +109,6 @@ fn put_changes(f: Framing, w: usize, bits: u16, changed: &[u8], map: &mut [u8])
         return;
     }
     put_word(f.depth, w, changed, map);
-}
-
-// Decodes word w into its part of the area, by the tables of all words, and maps where it was changed.
-fn receive_word(
-    f: Framing,
-    tables: &Tables,
-    plain: bool,
-    w: usize,
-    slots: &[u8],
-    marks: &[u8],
-    part: &mut [u8],
-    map: &mut [u8],
-) -> Found
-    requires { WordGiven f w slots.now marks.now part.old map.old × Tabled (word_setting f) tables.now × Plain plain marks.now }
-    ensures { WordPut f w slots.now marks.now map.old result part.new map.new }
-{
-    let word = take_word(f.depth, f.n, w, slots);
-    let marked = marks_of(f, plain, w, marks);
-    let mut room = work_space();
-    let changed = &mut room[..f.n];
-    let answer = decode_part_by(
-        f.words(),
-        tables,
-        &word[..f.n],
-        &marked[..f.n],
-        part,
-        changed,
-    );
-    let found = without_reason(answer);
-    put_changes(f, w, found.figures.bits, changed, map);
-    found
-}
-
-// Decodes each word into its part of the area and its slots of the map, which is cleared before, up to the first that is refused.
-fn receive_words(
-    f: Framing,
-    tables: &Tables,
-    plain: bool,
-    slots: &[u8],
-    marks: &[u8],
-    area: &mut [u8],
-    map: &mut [u8],
-) -> Words
-    requires { ReceiveChecked f slots.now marks.now area.old map.old × Tabled (word_setting f) tables.now × Plain plain marks.now }
-    ensures { Collected f slots.now marks.now result area.new map.new }
-{
-    fill(map, 0);
-    let k = f.n - f.r;
-    let mut figures = [no_figures(); 16];
-    for w in 0..f.depth {
-        let a = w * k;
-        let part = &mut area[a..a + k];
-        let found = receive_word(f, tables, plain, w, slots, marks, part, map);
-        if !found.accepted {
-            return Words {
-                accepted: w,
-                figures,
-            };
-        }
-        let own = found.figures;
-        figures[w] = own;
-    }
-    Words {
-        accepted: f.depth,
-        figures,
-    }
 }
 
 // What a frame leaves that is refused once it has been decoded: zeros.
@@ -178,14 +153,20 @@ fn receive_checked(
 {
     let mut tables = Tables::none();
     prepare(f.words(), &mut tables);
-    let plain = all_below(marks, 1);
-    let words = receive_words(f, &tables, plain, slots, marks, area, map);
-    if words.accepted < f.depth {
-        clear(area, map);
-        return Err(ReceiveError::BeyondReach(words.accepted as u8));
+    let arrived = Arrived {
+        f,
+        tables: &tables,
+        slots,
+        marks,
+        plain: all_below(marks, 1),
+    };
+    match arrived.receive_words(area, map) {
+        Ok(figures) => settle(area, map, figures),
+        Err(w) => {
+            clear(area, map);
+            Err(ReceiveError::BeyondReach(w))
+        }
     }
-    let figures = words.figures;
-    settle(area, map, figures)
 }
 
 // Whether a frame can be decoded into this area and this map. The setting comes first: within its limits the lengths fit.
