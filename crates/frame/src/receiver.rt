@@ -4,10 +4,10 @@ ghost use Rattle.std.specs.Prelude.{◌≡◌, ◌<◌, ◌≤◌, true, length,
 ghost use Rattle.algebra.specs.Tests.{below};
 ghost use Rattle.word.specs.Looking.{Tabled};
 ghost use Rattle.interleave.specs.Slots.{HasWord, TakesWord, PutsWord};
-ghost use Rattle.frame.specs.Frame.{word_setting, slot_count, area_size, number_of, receive_outcome, settled, decoded_frame, receive_refusal};
+ghost use Rattle.frame.specs.Frame.{word_setting, slot_count, area_size, receive_outcome, settled, decoded_frame};
 ghost use Rattle.frame.specs.Promises.{Receives};
 ghost use Rattle.frame.specs.Frame.Limits.{FrameAllowed};
-ghost use Rattle.frame.specs.Checks.{ReceiveChecked};
+ghost use Rattle.frame.specs.Checks.{ReceiveChecked, ReceiveTold};
 ghost use Rattle.frame.specs.Mapping.{Blank, Spare};
 ghost use Rattle.frame.specs.Decoding.{WordGiven, WordTold, Collected};
 
@@ -170,6 +170,7 @@ fn receive_checked(
 }
 
 // Whether a frame can be decoded into this area and this map. The setting comes first: within its limits the lengths fit.
+#[tactic(auto, using(crate::specs::Checks::told))]
 fn check_receive(
     f: Framing,
     slots: &[u8],
@@ -177,7 +178,7 @@ fn check_receive(
     area: &[u8],
     map: &[u8],
 ) -> Result<(), ReceiveError>
-    ensures { number_of result ≡ receive_refusal f slots.now marks.now area.now map.now }
+    ensures { ReceiveTold f slots.now marks.now area.now map.now result }
 {
     if !is_allowed(f) {
         return Err(ReceiveError::BadSetting);
@@ -195,6 +196,7 @@ fn check_receive(
 // Decodes a received frame into the lent area of A bytes; its slots and marks are only read. The map, which has a mark for each slot, gets 1
 // where a slot was changed, and 0 elsewhere. A frame that is beyond reach or has a bad trailer leaves zeros in the area and in the map, and any
 // other refusal leaves both as they were.
+#[tactic(auto, using(crate::specs::Receiving::receive_refused, crate::specs::Receiving::receive_decoded, std::proofs::lemmas::Result::err_from_is_err_and))]
 pub fn receive(
     f: Framing,
     slots: &[u8],
