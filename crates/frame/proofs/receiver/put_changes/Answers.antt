@@ -6,8 +6,3 @@ pub returns-then-bits-eq0 : goal.returns-then-bits-eq0
 returns-then-bits-eq0 c =
     let pre = c.requires in
     put_none _ c.args.f.n _ _ _ pre.0.turn pre.1 (pre.2.none c.if-bits-eq0.true)
-
-pub put_word-requires : goal.put_word-requires
-put_word-requires c =
-    let pre = c.requires in
-    rw pre.2.size pre.0
