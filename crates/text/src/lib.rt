@@ -7,6 +7,7 @@ ghost use Rattle.text.specs.Page.{Writes, WritesWithin};
 ghost use Rattle.text.specs.Text.{digit, decimal, signed, named, refusal, hex_digit, hex, hexes};
 
 // A lent text that is written up to `end`, where the next piece goes.
+#[derive(Drop)]
 pub struct Page<'a> {
     pub text: &'a mut [u8],
     pub end: usize,
