@@ -1,6 +1,6 @@
 -- How the first word of a frame that is no codeword is found, and what is answered then (document 02, No. 9).
 -- Assumes nothing.
-use Rattle.std.specs.Prelude.{◌≡◌, Bool, true, false, not, List, ℕ, ◌+◌, ◌≤◌, ◌<◌, length}
+use Rattle.std.specs.Prelude.{◌≡◌, Bool, true, false, not, Ok, Err, Some, None, List, ℕ, ◌+◌, ◌≤◌, ◌<◌, length}
 use Rattle.std.proofs.Common.{sym, ap, ◌∙◌, not-suc-le-zero, arith, below_more}
 use Rattle.std.proofs.Math.Decide.{dec_lt}
 use borrow.Author.Tests.{lt-ltb, le-ltb}
@@ -12,12 +12,12 @@ use Rattle.word.specs.Looking.{Stands, standing, standing_rule}
 use Rattle.word.specs.declared.Setting.{Setting}
 use Rattle.interleave.specs.Slots.{word_in, word_rule, word_below, in_slots}
 use Rattle.frame.specs.Frame.{word_setting}
-use Rattle.frame.specs.Clean.{clean_number, is_yes, unclean_word, unclean, clean_refusal, cleanness}
+use Rattle.frame.specs.Clean.{clean_number, unclean, clean_refusal, cleanness}
 use Rattle.frame.specs.Promises.{IsClean}
 use Rattle.frame.specs.Checks.{CleanChecked, clean_passes}
 use Rattle.frame.specs.declared.setting.Framing.{Framing}
-use Rattle.frame.specs.declared.clean.Clean.{Clean}
-use Rattle.frame.specs.declared.clean.Clean.TheVariants.{Yes, No}
+use Rattle.frame.specs.declared.clean.CleanError.{CleanError}
+use Rattle.frame.specs.declared.clean.CleanError.TheVariants.{BadSetting, BadLength}
 
 -- ---- one word, read where it stands
 
@@ -74,16 +74,21 @@ found_first f slots s w first e h l = searched f.depth (no_codeword s f.depth sl
 
 -- ---- the answers
 
+-- a refusal's number is not 0
+refusal_some : (e : CleanError) → 0 < clean_number {A = Unit {0}} (Err e)
+refusal_some BadSetting = omega arith
+refusal_some BadLength = omega arith
+
 module _ (f : Framing) (slots : List ℕ) where
-  pub clean_refused : (d : Clean) → clean_number d ≡ clean_refusal f slots → 0 < clean_number d → is_yes d ≡ false → unclean_word d ≡ 0 → IsClean f slots d
+  pub clean_refused : (e : CleanError) → clean_number {A = Unit {0}} (Err e) ≡ clean_refusal f slots → IsClean f slots (Err e)
   unfolding cleanness
-  clean_refused d e h b w = record { outcome = rw (b, w, e) (kept (clean_refusal f slots) _ _ (omega arith)) }
+  clean_refused e h = record { outcome = rw h (kept (clean_refusal f slots) _ _ (omega (arith, refusal_some e))) }
 
   module _ (c : CleanChecked f slots) (first : ℕ) (e : first ≡ unclean f slots) where
-    pub clean_no : first < f.depth → IsClean f slots (No first)
+    pub clean_no : first < f.depth → IsClean f slots (Ok (Some first))
     unfolding cleanness
     clean_no l = record { outcome = rw (← clean_passes f slots c, ← e, lt-ltb first f.depth l) }
 
-    pub clean_yes : f.depth ≤ first → IsClean f slots Yes
+    pub clean_yes : f.depth ≤ first → IsClean f slots (Ok None)
     unfolding cleanness
     clean_yes l = record { outcome = rw (← clean_passes f slots c, ← e, le-ltb first f.depth l) }

@@ -3,15 +3,17 @@
 -- Assumes nothing.
 use Rattle.std.specs.Prelude.{◌≡◌, true, false, List, length, T}
 use Rattle.std.proofs.Math.Path.{refl}
-use Prim.Native.Nat.{ℕ, ◌+◌, ◌-◌, ◌≤◌, ◌<◌}
+use Prim.Native.Nat.{ℕ, ◌+◌, ◌-◌, ◌≤◌}
 use Rattle.std.proofs.Math.Decide.{ℕ_discrete, dec_le}
 use Rattle.std.proofs.Common.{arith}
 use Rattle.algebra.specs.Tests.{below, passed}
 use Rattle.algebra.specs.Refusal.{passes, need_yes, need_no, need_zero, need_either}
-use Rattle.frame.specs.Frame.{area_size, slot_count, allowed_frame, sent_number, sent_as, send_refusal, payload_of, refused_frame, refused_with, receive_outcome, receive_refusal}
+use Rattle.frame.specs.Frame.{area_size, slot_count, allowed_frame, send_refusal, receive_refusal, error_number, error_word}
 use Rattle.frame.specs.Frame.Limits.{FrameAllowed, frame_kept, frame_yes}
 use Rattle.frame.specs.Clean.{clean_refusal}
 use Rattle.frame.specs.declared.setting.Framing.{Framing}
+use Rattle.frame.specs.declared.setting.ReceiveError.{ReceiveError}
+use Rattle.frame.specs.declared.setting.ReceiveError.TheVariants.{BadSetting, BadLength, BadMark, BeyondReach, BadTrailer}
 
 is_allowed : (f : Framing) → FrameAllowed f → T (allowed_frame f)
 is_allowed f a = rw (← frame_yes f a) tt
@@ -36,13 +38,6 @@ module _ (f : Framing) (payload slots : List ℕ) where
   pub send_passes : SendChecked f payload slots → 0 ≡ send_refusal f payload slots
   unfolding send_refusal
   send_passes c = need_yes _ _ _ _ (is_allowed f c.limits) (need_yes _ _ _ _ c.slots_size (need_yes _ _ _ _ (omega (arith, c.fits)) refl))
-
-  -- a refusal is the number of an answer
-  pub send_numbered : sent_number (sent_as (send_refusal f payload slots)) ≡ send_refusal f payload slots
-  unfolding send_refusal
-  send_numbered =
-      let told : ℕ → Type 0 = λ k. sent_number (sent_as k) ≡ k in
-      need_either _ 1 _ told refl (need_either _ 2 _ told refl (need_either _ 6 0 told refl refl))
 
 -- ---- before a frame is received
 
@@ -80,15 +75,21 @@ module _ (f : Framing) (slots marks area map : List ℕ) where
       need_yes _ _ _ _ (is_allowed f c.limits)
       (need_yes _ _ _ _ c.slots_size (need_yes _ _ _ _ c.marks_size (need_yes _ _ _ _ c.area_size_lem (need_yes _ _ _ _ c.map_size (need_yes _ _ _ _ c.marks_small refl)))))
 
-  -- a refusal is the number of an answer, which has no other numbers
-  pub receive_numbered : 0 < receive_refusal f slots marks area map → (left left_map : List ℕ)
-      → receive_outcome (refused_with (receive_refusal f slots marks area map) 0) left left_map ≡ refused_frame (receive_refusal f slots marks area map) 0 left left_map
-  unfolding receive_refusal payload_of
-  receive_numbered h left left_map =
-      let told : ℕ → Type 0 = λ k. 0 < k → receive_outcome (refused_with k 0) left left_map ≡ refused_frame k 0 left left_map in
-      need_either _ 1 _ told (λ h. refl)
-      (need_either _ 2 _ told (λ h. refl) (need_either _ 2 _ told (λ h. refl) (need_either _ 2 _ told (λ h. refl)
-      (need_either _ 2 _ told (λ h. refl) (need_either _ 3 0 told (λ h. refl) (λ h. absurd (omega arith))))))) h
+  -- a refusal by the checks names no word
+  receive_most : receive_refusal f slots marks area map ≤ 3
+  unfolding receive_refusal
+  receive_most =
+      let few : ℕ → Type 0 = λ k. k ≤ 3 in
+      need_either _ 1 _ few (omega arith)
+      (need_either _ 2 _ few (omega arith) (need_either _ 2 _ few (omega arith) (need_either _ 2 _ few (omega arith)
+      (need_either _ 2 _ few (omega arith) (need_either _ 3 0 few (omega arith) (omega arith))))))
+
+  pub refused_no_word : (e : ReceiveError) → error_number e ≡ receive_refusal f slots marks area map → error_word e ≡ 0
+  refused_no_word BadSetting h = refl
+  refused_no_word BadLength h = refl
+  refused_no_word BadMark h = refl
+  refused_no_word (BeyondReach w) h = absurd (omega (arith, receive_most))
+  refused_no_word BadTrailer h = refl
 
 -- ---- before a frame is asked about
 
@@ -97,21 +98,12 @@ pub record CleanChecked (f : Framing) (slots : List ℕ) : Type 0 where
   pub slots_size : length slots ≡ slot_count f
 
 module _ (f : Framing) (slots : List ℕ) where
-  most : clean_refusal f slots ≤ 2
+  pub clean_checked : clean_refusal f slots ≡ 0 → CleanChecked f slots
   unfolding clean_refusal
-  most =
-      let few : ℕ → Type 0 = λ k. k ≤ 2 in
-      need_either _ 1 _ few (omega arith) (need_either _ 2 0 few (omega arith) (omega arith))
-
-  passed_both : clean_refusal f slots ≡ 0 → CleanChecked f slots
-  unfolding clean_refusal
-  passed_both e =
+  clean_checked e =
       let (a, e₁) = need_zero (passes (allowed_frame f)) 1 _ (omega arith) e in
       let (n, _) = need_zero (ℕ_discrete (length slots) (slot_count f)) 2 _ (omega arith) e₁ in
       record { limits = frame_kept f (passed _ a); slots_size = n }
-
-  pub clean_checked : (k : ℕ) → k ≡ clean_refusal f slots → (k ≡ 1 → ⊥) → (k ≡ 2 → ⊥) → CleanChecked f slots
-  clean_checked k e a b = passed_both (omega (arith, most))
 
   pub clean_passes : CleanChecked f slots → 0 ≡ clean_refusal f slots
   unfolding clean_refusal

@@ -2,31 +2,30 @@
 // words.
 ghost use Rattle.std.specs.Prelude.{◌≡◌};
 ghost use Rattle.word.specs.Looking.{Tabled};
-ghost use Rattle.frame.specs.Frame.{word_setting, send_refusal, slots_sent};
+ghost use Rattle.frame.specs.Frame.{word_setting, sent_number, send_refusal, slots_sent};
 ghost use Rattle.frame.specs.Promises.{Sends};
 ghost use Rattle.frame.specs.Sending.{SendGiven};
 
-use crate::numbers::sent_as;
-use crate::setting::{Framing, Sent, is_allowed, words_of};
+use crate::setting::{Framing, SendError, is_allowed, words_of};
 use crate::trailer::fill_message;
 use buffers::work_space;
 use interleave::slots::put_word;
 use word::tables::{encode_by, no_table, prepare};
 
-// The number by which sending is refused, or 0. The setting comes first: within its limits the area's size fits.
-fn send_refusal(f: Framing, payload: &[u8], slots: &[u8]) -> u8
-    ensures { result ≡ send_refusal f payload.now slots.now }
+// Whether a payload can be sent into these slots. The setting comes first: within its limits the area's size fits.
+fn check_send(f: Framing, payload: &[u8], slots: &[u8]) -> Result<(), SendError>
+    ensures { sent_number result ≡ send_refusal f payload.now slots.now }
 {
     if !is_allowed(f) {
-        return 1;
+        return Err(SendError::BadSetting);
     }
     if slots.len() != f.n * f.depth {
-        return 2;
+        return Err(SendError::BadLength);
     }
     if f.depth * (f.n - f.r) - 4 < payload.len() {
-        return 6;
+        return Err(SendError::LongPayload);
     }
-    0
+    Ok(())
 }
 
 // Encodes each word's part of the area by the tables of all words, and puts it into its slots. The two buffers are work space for a message
@@ -56,13 +55,10 @@ fn send_words(
 
 // Sends a payload of at most A - 4 bytes with its sequence number: fills the slots, of which there are n * depth.
 // Any refusal leaves the slots as they were.
-pub fn send(f: Framing, payload: &[u8], sequence: u16, slots: &mut [u8]) -> Sent
+pub fn send(f: Framing, payload: &[u8], sequence: u16, slots: &mut [u8]) -> Result<(), SendError>
     ensures { Sends f payload.now sequence slots.old result slots.new }
 {
-    let number = send_refusal(f, payload, slots);
-    if number != 0 {
-        return sent_as(number);
-    }
+    check_send(f, payload, slots)?;
     let mut low = no_table();
     let mut high = no_table();
     prepare(words_of(f), &mut low, &mut high);
@@ -79,5 +75,5 @@ pub fn send(f: Framing, payload: &[u8], sequence: u16, slots: &mut [u8]) -> Sent
         &mut word[..f.n],
         slots,
     );
-    Sent::Done
+    Ok(())
 }

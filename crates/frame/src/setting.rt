@@ -13,19 +13,17 @@ pub struct Framing {
     pub b: usize,
 }
 
-// What sending answers.
-#[derive(Clone, Copy)]
-pub enum Sent {
-    Done,
+// Why a payload is not sent.
+#[derive(Clone, Copy, Debug, PartialEq, Eq)]
+pub enum SendError {
     BadSetting,
     BadLength,
     LongPayload,
 }
 
-// How receiving ends. A frame beyond reach names its first word that is.
-#[derive(Clone, Copy)]
-pub enum Verdict {
-    Done,
+// Why a frame is not received. One beyond reach names its first word that is.
+#[derive(Clone, Copy, Debug, PartialEq, Eq)]
+pub enum ReceiveError {
     BadSetting,
     BadLength,
     BadMark,
@@ -33,10 +31,9 @@ pub enum Verdict {
     BadTrailer,
 }
 
-// What receiving answers: the numbers of an accepted frame, with the figures of each word. All are 0 under a refusal.
+// The numbers of an accepted frame, with the figures of each word.
 #[derive(Clone, Copy)]
 pub struct Received {
-    pub verdict: Verdict,
     pub sequence: u16,
     pub back: u16,
     pub figures: [Figures; 16],

@@ -3,10 +3,10 @@
 ghost use Rattle.std.specs.Prelude.{◌≡◌, ◌+◌, ◌<◌, ◌≤◌, length};
 ghost use Rattle.algebra.specs.Tests.{at};
 ghost use Rattle.algebra.specs.Lists.{Copied};
-ghost use Rattle.frame.specs.Frame.{trailer, two_at, area_byte, area_sent, zeros_before, trailer_good, is_done};
+ghost use Rattle.frame.specs.Frame.{trailer, two_at, area_byte, area_sent, zeros_before, trailer_good};
 ghost use Rattle.frame.specs.Promises.{HandsBack};
 
-use crate::setting::{Received, Verdict};
+use crate::setting::{ReceiveError, Received};
 
 // Byte i of the trailer to be sent.
 fn trailer_at(back: u16, sequence: u16, i: usize) -> u8
@@ -89,37 +89,19 @@ pub fn is_good(area: &[u8]) -> bool
     zeros_before(area, room - back)
 }
 
-// Whether the frame was accepted.
-fn is_done(verdict: Verdict) -> bool
-    ensures { result ≡ is_done verdict }
-{
-    match verdict {
-        Verdict::Done => true,
-        Verdict::BadSetting => false,
-        Verdict::BadLength => false,
-        Verdict::BadMark => false,
-        Verdict::BeyondReach(_) => false,
-        Verdict::BadTrailer => false,
-    }
-}
-
 // The payload of an accepted frame, as that part of the area itself: the `back` bytes that end four before its end. The part is empty
 // where the frame was refused, and where an area has not so many bytes.
-pub fn payload<'a>(area: &'a [u8], answer: Received) -> &'a [u8]
+pub fn payload<'a>(area: &'a [u8], answer: Result<Received, ReceiveError>) -> &'a [u8]
     ensures { HandsBack area.now answer result.now }
 {
-    let verdict = answer.verdict;
-    if !is_done(verdict) {
+    let Ok(received) = answer else {
         return &area[0..0];
-    }
+    };
     let n = area.len();
-    if n < 4 {
+    let back = received.back as usize;
+    if n < back + 4 {
         return &area[0..0];
     }
     let end = n - 4;
-    let back = answer.back as usize;
-    if end < back {
-        return &area[0..0];
-    }
     &area[end - back..end]
 }

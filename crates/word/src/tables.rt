@@ -9,7 +9,7 @@ ghost use Rattle.word.specs.Looking.{Tabled, Stands, standing};
 ghost use Rattle.word.specs.Promises.{DecodesPart};
 
 use crate::look::look_by;
-use crate::{Decoded, Setting, to_part};
+use crate::{DecodeError, Figures, Setting, to_part};
 use buffers::join;
 use checks::left::agree;
 use checks::register;
@@ -47,7 +47,7 @@ pub fn decode_part_by(
     marks: &[u8],
     part: &mut [u8],
     map: &mut [u8],
-) -> Decoded
+) -> Result<Figures, DecodeError>
     requires { Checked s marks.now received.now × Tabled s low.now high.now × (length part.old ≡ message_size s) × (length map.old ≡ s.n) }
     ensures { DecodesPart s received.now marks.now part.old map.old result part.new map.new }
 {

@@ -1,6 +1,6 @@
 -- The area to be sent entry by entry, the test of a received one, and the payload as a part of it.
 -- Assumes nothing.
-use Rattle.std.specs.Prelude.{◌≡◌, refl, Bool, true, false, List, [], ◌++◌, ℕ, ◌+◌, ◌-◌, ◌≤◌, ◌<◌, take, drop, replicate, eqb}
+use Rattle.std.specs.Prelude.{◌≡◌, refl, Bool, true, false, Ok, List, [], ◌++◌, ℕ, ◌+◌, ◌-◌, ◌≤◌, ◌<◌, take, drop, replicate, eqb}
 use Rattle.std.proofs.Math.Path.{sym}
 use Rattle.std.proofs.Common.{ap, ◌∙◌, eqb→eq}
 use native.Mathlib.Omega.{arith}
@@ -9,7 +9,7 @@ use Rattle.std.proofs.Math.ListN.{length, length-append, get_or-append}
 use Rattle.std.proofs.lemmas.List.{length-replicate, get_or-replicate}
 use Rattle.std.proofs.Math.Seq.{get_or-append-add}
 use Rattle.algebra.specs.Tests.{at, each, each_at, each_all, passed}
-use Rattle.frame.specs.Frame.{trailer, two_at, area_sent, zeros_before, trailer_good, payload_in, payload_of, is_done}
+use Rattle.frame.specs.Frame.{trailer, two_at, area_sent, zeros_before, trailer_good, payload_in, payload_of}
 use Rattle.frame.specs.declared.setting.Received.{Received}
 
 -- ---- the area to be sent
@@ -78,17 +78,12 @@ module _ (A : ℕ) (area : List ℕ) where
 -- ---- the payload
 
 module _ (r : Received) (area : List ℕ) where
-  pub payload_refused : is_done r.verdict ≡ false → [] ≡ payload_of r area
-  unfolding payload_of
-  payload_refused e = rw e
+  pub payload_short : length area < r.back + 4 → [] ≡ payload_of (Ok r) area
+  unfolding payload_of payload_in
+  payload_short h = rw (lt-leb (r.back + 4) (length area) h)
 
-  module _ (e : is_done r.verdict ≡ true) where
-    pub payload_short : length area < r.back + 4 → [] ≡ payload_of r area
-    unfolding payload_of payload_in
-    payload_short h = rw (e, lt-leb (r.back + 4) (length area) h)
-
-    pub payload_there : r.back + 4 ≤ length area → take (length area - 4 - (length area - 4 - r.back)) (drop (length area - 4 - r.back) area) ≡ payload_of r area
-    unfolding payload_of payload_in
-    payload_there h =
-        let n : length area - 4 - (length area - 4 - r.back) ≡ r.back = omega arith in
-        rw (e, le-leb (r.back + 4) (length area) h, n)
+  pub payload_there : r.back + 4 ≤ length area → take (length area - 4 - (length area - 4 - r.back)) (drop (length area - 4 - r.back) area) ≡ payload_of (Ok r) area
+  unfolding payload_of payload_in
+  payload_there h =
+      let n : length area - 4 - (length area - 4 - r.back) ≡ r.back = omega arith in
+      rw (le-leb (r.back + 4) (length area) h, n)

@@ -1,11 +1,11 @@
--- `send_refusal` meets its contract: each return is the first need that is not met, or, at the end, all are.
+-- `check_send` meets its contract: each return is the first need that is not met, or, at the end, all are.
 use mathlib.Core.Path.{refl}
 use native.Mathlib.Omega.{arith}
 use Rattle.algebra.specs.Tests.{passed}
 use Rattle.algebra.specs.Refusal.{need_yes, need_no, test_yes, test_no}
 use Rattle.frame.specs.Frame.Limits.{frame_kept, area_few, slots_few}
 use Rattle.frame.specs.Frame.{send_refusal}
-use Rattle.frame.proofs.sender.send_refusal.Goals as goal
+use Rattle.frame.proofs.sender.check_send.Goals as goal
 
 pub returns-then-not-is_allowed : goal.returns-then-not-is_allowed
 unfolding send_refusal

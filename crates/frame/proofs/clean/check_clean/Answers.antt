@@ -1,11 +1,11 @@
--- `clean::clean_refusal` meets its contract: each return is the first need that is not met, or, at the end, both are.
+-- `clean::check_clean` meets its contract: each return is the first need that is not met, or, at the end, both are.
 use mathlib.Core.Path.{refl}
 use native.Mathlib.Omega.{arith}
 use Rattle.algebra.specs.Tests.{passed}
 use Rattle.algebra.specs.Refusal.{need_yes, need_no, test_yes, test_no}
 use Rattle.frame.specs.Frame.Limits.{frame_kept, slots_few}
 use Rattle.frame.specs.Clean.{clean_refusal}
-use Rattle.frame.proofs.clean.clean_refusal.Goals as goal
+use Rattle.frame.proofs.clean.check_clean.Goals as goal
 
 pub returns-then-not-is_allowed : goal.returns-then-not-is_allowed
 unfolding clean_refusal
