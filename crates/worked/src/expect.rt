@@ -1,12 +1,11 @@
 // Calls of the word code held to the answer that the paper gives.
 ghost use Rattle.std.specs.Prelude.{◌≤◌, length};
 
-use check::same;
 use word::numbers::{encoded_number, figures_of, number_of};
 use word::{Decoded, Setting};
 
 // What the paper says of a received word: the number answered, with e, f and bits.
-#[derive(Clone, Copy)]
+#[derive(Clone, Copy, PartialEq, Eq)]
 pub struct Outcome {
     pub number: u8,
     pub errors: u16,
@@ -24,12 +23,7 @@ pub struct Lent {
 
 // A setting of the word code, in the paper's order.
 pub fn setting(m: usize, n: usize, r: usize, b: usize) -> Setting {
-    Setting {
-        m: m,
-        n: n,
-        r: r,
-        b: b,
-    }
+    Setting { m, n, r, b }
 }
 
 // Accepted, with e, f and bits.
@@ -38,14 +32,14 @@ pub fn done(e: u16, f: u16, bits: u16) -> Outcome {
         number: 0,
         errors: e,
         marked: f,
-        bits: bits,
+        bits,
     }
 }
 
 // Refused with this number; the figures are then 0.
 pub fn refused(number: u8) -> Outcome {
     Outcome {
-        number: number,
+        number,
         errors: 0,
         marked: 0,
         bits: 0,
@@ -63,26 +57,9 @@ fn found(answer: Decoded) -> Outcome {
     }
 }
 
-// Whether two outcomes are the same.
-fn agrees(a: Outcome, b: Outcome) -> bool {
-    if a.number != b.number {
-        return false;
-    }
-    if a.errors != b.errors {
-        return false;
-    }
-    if a.marked != b.marked {
-        return false;
-    }
-    a.bits == b.bits
-}
-
 // Whether encoding answers this number and leaves these symbols in the word.
 pub fn encodes(s: Setting, message: &[u8], symbols: &mut [u8], number: u8, after: &[u8]) -> bool {
-    if encoded_number(word::encode(s, message, symbols)) != number {
-        return false;
-    }
-    same(symbols, after)
+    encoded_number(word::encode(s, message, symbols)) == number && &*symbols == after
 }
 
 // Whether decoding has this outcome, and leaves these symbols in the word and this map.
@@ -95,10 +72,7 @@ pub fn decodes(
     after: &[u8],
     changed: &[u8],
 ) -> bool {
-    if !agrees(found(word::decode(s, symbols, marks, map)), wanted) {
-        return false;
-    }
-    both_same(symbols, after, map, changed)
+    found(word::decode(s, symbols, marks, map)) == wanted && &*symbols == after && &*map == changed
 }
 
 // Whether decoding into a part has this outcome, and leaves these symbols in the part and this map.
@@ -112,21 +86,9 @@ pub fn decodes_part(
     after: &[u8],
     changed: &[u8],
 ) -> bool {
-    if !agrees(
-        found(word::decode_part(s, symbols, marks, part, map)),
-        wanted,
-    ) {
-        return false;
-    }
-    both_same(part, after, map, changed)
-}
-
-// Whether a is b, and c is d.
-fn both_same(a: &[u8], b: &[u8], c: &[u8], d: &[u8]) -> bool {
-    if !same(a, b) {
-        return false;
-    }
-    same(c, d)
+    found(word::decode_part(s, symbols, marks, part, map)) == wanted
+        && &*part == after
+        && &*map == changed
 }
 
 // `encodes` with the first k symbols of a message and the first n of a word.
