@@ -1,10 +1,11 @@
 // The delay line for C. A line's setting is the caller's and does not change, so only the position goes back, as the cross line's does.
 ghost use Rattle.std.specs.Prelude.{◌≡◌};
-ghost use Rattle.radio.specs.Lines.{line_of, LineFreshSender, LineFreshReceiver, LineSendStep, LineSendRun, LineReceiveStep, LineReceiveRun};
+ghost use Rattle.radio.specs.Lines.{line_of, sent_seen, received_seen, LineFreshSender, LineFreshReceiver, LineSendStep, LineSendRun, LineReceiveStep, LineReceiveRun};
 
 use cross::Ready;
 use interleave::{
-    Line, fresh_receiver, fresh_sender, receive_run, receive_step, send_run, send_step,
+    Line, Received, Sent, fresh_receiver, fresh_sender, receive_run, receive_step, send_run,
+    send_step,
 };
 
 // A delay line as C sets it.
@@ -44,6 +45,32 @@ fn line_of(line: LineSetting, position: usize) -> Line
         unit: line.unit as usize,
         n: line.n as usize,
         position,
+    }
+}
+
+// A step's answer as C sees it.
+impl From<Sent> for LineSent {
+    ghost from_gives = { λ t r. r ≡ sent_seen t };
+
+    fn from(t: Sent) -> LineSent {
+        LineSent {
+            answer: t.answer,
+            byte: t.byte,
+            position: t.line.position,
+        }
+    }
+}
+
+impl From<Received> for LineReceived {
+    ghost from_gives = { λ t r. r ≡ received_seen t };
+
+    fn from(t: Received) -> LineReceived {
+        LineReceived {
+            answer: t.answer,
+            byte: t.byte,
+            mark: t.mark,
+            position: t.line.position,
+        }
     }
 }
 
@@ -87,12 +114,7 @@ pub extern "C" fn yaxo_line_send_step(
 ) -> LineSent
     ensures { LineSendStep line position memory.old byte result memory.new }
 {
-    let t = send_step(line_of(line, position), memory, byte);
-    LineSent {
-        answer: t.answer,
-        byte: t.byte,
-        position: t.line.position,
-    }
+    send_step(line_of(line, position), memory, byte).into()
 }
 
 // A step for each of the bytes, in place. Answers as a step does; refused, memory and bytes stay as they were.
@@ -124,13 +146,7 @@ pub extern "C" fn yaxo_line_receive_step(
 ) -> LineReceived
     ensures { LineReceiveStep line position memory.old held.old byte mark result memory.new held.new }
 {
-    let t = receive_step(line_of(line, position), memory, held, byte, mark);
-    LineReceived {
-        answer: t.answer,
-        byte: t.byte,
-        mark: t.mark,
-        position: t.line.position,
-    }
+    receive_step(line_of(line, position), memory, held, byte, mark).into()
 }
 
 // A step for each of the bytes with its mark, in place. Answers as a step does; refused, all that was lent stays as it was.

@@ -4,8 +4,8 @@ ghost use Rattle.std.specs.Prelude.{◌≡◌};
 ghost use Rattle.link.specs.Masts.{copy_of, left_of};
 ghost use Rattle.radio.specs.Masts.{mast_number, of_used, chosen_seen, both_masts_seen, MastsReceive, MastsHear};
 
-use crate::frames::{FrameAnswer, FrameSetting, framing_of, start_of};
-use crate::records::{LentRecord, record_of, record_seen};
+use crate::frames::{FrameAnswer, FrameSetting, start_of};
+use crate::records::{LentRecord, record_seen};
 use link::{Chosen, Mast, hear_masts, masts_payload, receive_masts};
 
 // The mast that is used, and what both copies are answered, as a frame's answer.
@@ -50,11 +50,9 @@ fn size_of_used(mast: Mast, first: usize, second: usize) -> usize
 fn chosen_answer<'a>(t: Chosen, first: &'a [u8], second: &'a [u8]) -> ChosenAnswer
     ensures { result ≡ chosen_seen first.now second.now t }
 {
-    let mast = t.mast;
-    let part = masts_payload(first, second, t);
-    let length = part.len();
-    let size = size_of_used(mast, first.len(), second.len());
+    let length = masts_payload(first, second, t).len();
     let figures = t.figures;
+    let size = size_of_used(t.mast, first.len(), second.len());
     let frame = FrameAnswer {
         answer: t.number,
         word: t.word,
@@ -64,7 +62,7 @@ fn chosen_answer<'a>(t: Chosen, first: &'a [u8], second: &'a [u8]) -> ChosenAnsw
         figures,
     };
     ChosenAnswer {
-        mast: mast_number(mast),
+        mast: mast_number(t.mast),
         frame,
     }
 }
@@ -85,7 +83,7 @@ pub extern "C" fn yaxo_masts_receive(
     ensures { MastsReceive framing (copy_of slots1.now marks1.now area1.old map1.old) (copy_of slots2.now marks2.now area2.old map2.old) result (left_of area1.new map1.new) (left_of area2.new map2.new) }
 {
     let t = receive_masts(
-        framing_of(framing),
+        framing.into(),
         slots1,
         marks1,
         area1,
@@ -115,8 +113,8 @@ pub extern "C" fn yaxo_masts_hear(
     ensures { MastsHear before framing (copy_of slots1.now marks1.now area1.old map1.old) (copy_of slots2.now marks2.now area2.old map2.old) result (left_of area1.new map1.new) (left_of area2.new map2.new) }
 {
     let t = hear_masts(
-        record_of(before),
-        framing_of(framing),
+        before.into(),
+        framing.into(),
         slots1,
         marks1,
         area1,
