@@ -11,10 +11,8 @@ fn copy_word(depth: usize, w: usize, slots: &[u8], word: &mut [u8])
     requires { HasWord depth (length word.old) w (length slots.now) }
     ensures { Copied (length word.old) (slot_byte depth w slots.now) word.new }
 {
-    let mut i = 0;
-    while i < word.len() {
-        word[i] = slots[i * depth + w];
-        i += 1;
+    for (i, byte) in word.iter_mut().enumerate() {
+        *byte = slots[i * depth + w];
     }
 }
 
@@ -33,9 +31,7 @@ pub fn put_word(depth: usize, w: usize, word: &[u8], slots: &mut [u8])
     requires { HasWord depth (length word.now) w (length slots.old) }
     ensures { PutsWord depth w word.now slots.old slots.new }
 {
-    let mut i = 0;
-    while i < word.len() {
-        slots[i * depth + w] = word[i];
-        i += 1;
+    for (i, byte) in word.iter().enumerate() {
+        slots[i * depth + w] = *byte;
     }
 }

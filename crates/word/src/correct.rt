@@ -1,10 +1,9 @@
 // How a word is corrected: the codeword with 2e + f ≤ r is found by peeling (docs/ARCHITECTURE.md), or there is none.
-ghost use Rattle.std.specs.Prelude.{◌≡◌, false, ◌*◌, ◌≤◌, length};
+ghost use Rattle.std.specs.Prelude.{◌≡◌, ◌*◌, ◌≤◌, length};
 ghost use Rattle.word.specs.Looking.{Measured};
-ghost use Rattle.word.specs.Correcting.{Steps, FoundWith, Summed, Corrects};
+ghost use Rattle.word.specs.Correcting.{Steps, Summed, Corrects};
 
 use crate::count::{count_bits, count_errors};
-use crate::numbers::no_figures;
 use crate::{Figures, Setting};
 use buffers::copy;
 use checks::syndrome::{all_zero, syndromes};
@@ -13,35 +12,15 @@ use decoder::kernel::kernel;
 use decoder::locate::{candidates, locators};
 use decoder::peel::peel_all;
 
-// Whether a codeword was found, and its figures.
-#[derive(Drop)]
-pub struct Correction {
-    pub found: bool,
-    pub figures: Figures,
-}
-
-// No codeword qualifies.
-fn none_found() -> Correction
-    ensures { result.found ≡ false }
-{
-    Correction {
-        found: false,
-        figures: no_figures(),
-    }
-}
-
-// The answer for a word that was found: its e wrong symbols, f marks and changed bits.
-fn found(e: usize, f: usize, bits: usize) -> Correction
+// The figures of a word that was found: its e wrong symbols, f marks and changed bits.
+fn found(e: usize, f: usize, bits: usize) -> Figures
     requires { (e ≤ 255) × (f ≤ 255) × (bits ≤ 8 * 255) }
-    ensures { FoundWith e f bits result }
+    ensures { result ≡ record { errors = e; marked = f; bits = bits } }
 {
-    Correction {
-        found: true,
-        figures: Figures {
-            errors: e as u16,
-            marked: f as u16,
-            bits: bits as u16,
-        },
+    Figures {
+        errors: e as u16,
+        marked: f as u16,
+        bits: bits as u16,
     }
 }
 
@@ -60,7 +39,7 @@ fn correct_places(s: Setting, marks: &[u8], f: usize, sums: [u8; 16], word: &mut
     correct(m, n, s.b, &locators, &flags, sums, word)
 }
 
-// Corrects the received word in `out`, which is no codeword, to the one with 2e + f ≤ r, where there is one.
+// Corrects the received word in `out`, which is no codeword, to the one with 2e + f ≤ r, where there is one, and gives its figures.
 fn correct_errors(
     s: Setting,
     received: &[u8],
@@ -68,22 +47,22 @@ fn correct_errors(
     f: usize,
     sums: [u8; 16],
     out: &mut [u8],
-) -> Correction
+) -> Option<Figures>
     requires { Summed s marks.now received.now f sums × (out.old ≡ received.now) }
     ensures { Corrects s marks.now received.now out.new result }
 {
     let rest = correct_places(s, marks, f, sums, out);
     if !all_zero(s.m, rest, s.r) {
-        return none_found();
+        return None;
     }
     let e = count_errors(marks, received, out);
     if s.r < 2 * e + f {
-        return none_found();
+        return None;
     }
-    found(e, f, count_bits(received, out))
+    Some(found(e, f, count_bits(received, out)))
 }
 
-// Puts the codeword with 2e + f ≤ r into `out`, where there is one. The syndromes are taken of what the word leaves over, which has at most
+// Puts the codeword with 2e + f ≤ r into `out`, where there is one, and gives its figures. The syndromes are taken of what the word leaves over, which has at most
 // sixteen symbols.
 pub fn correct_word(
     s: Setting,
@@ -92,7 +71,7 @@ pub fn correct_word(
     received: &[u8],
     marks: &[u8],
     out: &mut [u8],
-) -> Correction
+) -> Option<Figures>
     requires { Measured s marks.now received.now f rest × (length out.old ≡ s.n) }
     ensures { Corrects s marks.now received.now out.new result }
 {

@@ -18,8 +18,8 @@ all_zero-requires c = (limits _ c.requires.0.checked.setting).high
 pub returns-then-not-all_zero : goal.returns-then-not-all_zero
 returns-then-not-all_zero c =
     let k = c.requires.0 in
-    lost_left _ _ _ k.checked _ k.counted k.few _ k.measured _ _ (rw c.requires.1 at c.correct_places-rest.ensures) _
-    (sym c.all_zero.ensures ∙ not-true _ c.if-not-all_zero.true-raw) c.none_found.ensures
+    lost_left _ _ _ k.checked _ k.counted k.few _ k.measured _ _ (rw c.requires.1 at c.correct_places-rest.ensures)
+    (sym c.all_zero.ensures ∙ not-true _ c.if-not-all_zero.true-raw)
 
 pub count_errors-e-requires : goal.count_errors-e-requires
 count_errors-e-requires c =
@@ -39,8 +39,8 @@ overflow_add-e c =
 pub returns-then-s-e : goal.returns-then-s-e
 returns-then-s-e c =
     let k = c.requires.0 in
-    lost_far _ _ _ k.checked _ k.counted k.few _ k.measured _ _ (rw c.requires.1 at c.correct_places-rest.ensures) _ _
-    c.count_errors-e.ensures.0 c.if-s-e.true c.none_found-then-s-e.ensures
+    lost_far _ _ _ k.checked _ k.counted k.few _ k.measured _ _ (rw c.requires.1 at c.correct_places-rest.ensures) _
+    c.count_errors-e.ensures.0 c.if-s-e.true
 
 pub count_bits-requires : goal.count_bits-requires
 count_bits-requires c =
@@ -56,5 +56,5 @@ found-requires c =
 pub returns : goal.returns
 returns c =
     let k = c.requires.0 in
-    found_corrected _ _ _ k.checked _ k.counted k.few _ k.measured _ _ (rw c.requires.1 at c.correct_places-rest.ensures) _ _
-    c.count_errors-e.ensures.0 (omega arith) (sym c.all_zero.ensures ∙ not-false _ c.if-not-all_zero.false-raw) _ c.count_bits.ensures.0 c.found.ensures
+    found_corrected _ _ _ k.checked _ k.counted k.few _ k.measured _ _ (rw c.requires.1 at c.correct_places-rest.ensures) _
+    c.count_errors-e.ensures.0 (omega arith) (sym c.all_zero.ensures ∙ not-false _ c.if-not-all_zero.false-raw) _ c.count_bits.ensures.0 _ c.found.ensures

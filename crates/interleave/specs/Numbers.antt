@@ -1,0 +1,75 @@
+-- Why a call on an interleaver is refused, and the paper's number for it (document 01, Numbers a call can answer). The refusals of specs/ are
+-- those numbers, and an answer of the code gives, or refuses with the error that its number stands for.
+-- Assumes nothing.
+use Rattle.std.specs.Prelude.{◌≡◌, refl, ◌≢◌, Result, Ok, Err, ℕ, zero, suc, ◌≤◌, ◌<◌}
+use Rattle.std.proofs.Common.{ap, ◌∙◌, arith}
+use Rattle.algebra.specs.Refusal.{need, need_either, first, if_zero}
+use Rattle.interleave.specs.declared.block.BlockError.{BlockError}
+use Rattle.interleave.specs.declared.block.BlockError.TheVariants as block
+use Rattle.interleave.specs.declared.line.LineError.{LineError}
+use Rattle.interleave.specs.declared.line.LineError.TheVariants as line
+
+-- the numbers, and the error that each stands for
+abbrev pub block_number : BlockError → ℕ
+block_number block.BadSetting = 1
+block_number block.BadLength = 2
+
+abbrev pub block_error : ℕ → BlockError
+block_error zero = block.BadSetting
+block_error (suc zero) = block.BadSetting
+block_error (suc (suc k)) = block.BadLength
+
+abbrev pub line_number : LineError → ℕ
+line_number line.BadSetting = 1
+line_number line.BadLength = 2
+line_number line.BadMark = 3
+
+abbrev pub line_error : ℕ → LineError
+line_error zero = line.BadSetting
+line_error (suc zero) = line.BadSetting
+line_error (suc (suc zero)) = line.BadLength
+line_error (suc (suc (suc k))) = line.BadMark
+
+-- what a call answers whose number is k, where it gives a
+abbrev pub answered : {A E : Type 0} → (ℕ → E) → ℕ → A → Result A E
+answered error k a = if_zero k (Ok a) (Err (error k))
+
+-- the number of an answer: 0 where it gives
+abbrev pub number_of : {A E : Type 0} → (E → ℕ) → Result A E → ℕ
+number_of number (Ok a) = 0
+number_of number (Err e) = number e
+
+-- ---- laws
+
+module _ {A E : Type 0} (error : ℕ → E) (a : A) where
+  -- the number of a call that gives is 0
+  pub passed : (k : ℕ) (x : A) → Ok x ≡ answered error k a → k ≡ 0
+  passed zero x e = refl
+  passed (suc k) x e = absurd (let z : ◌≡◌ {A = Result A E} (Ok x) (Err (error (suc k))) = e in cc)
+
+  -- one that is refused is refused also by what comes after, ..
+  pub first_refused : (k b : ℕ) (x : E) → Err x ≡ answered error k a → Err x ≡ answered error (first k b) a
+  first_refused zero b x e = absurd (let z : ◌≡◌ {A = Result A E} (Err x) (Ok a) = e in cc)
+  first_refused (suc k) b x e = e
+
+  -- .. and its error is that of its number
+  pub failed : (k : ℕ) (x : E) → Err x ≡ answered error k a → (k ≢ 0) × (x ≡ error k)
+  failed zero x e = absurd (let z : ◌≡◌ {A = Result A E} (Err x) (Ok a) = e in cc)
+  failed (suc k) x e = (λ z. omega arith, let z : ◌≡◌ {A = Result A E} (Err x) (Err (error (suc k))) = e in cc)
+
+-- what is done with either side of a choice
+pub through : {A B : Type 0} (f : A → B) (k : ℕ) (a b : A) → f (if_zero k a b) ≡ if_zero k (f a) (f b)
+through f zero a b = refl
+through f (suc k) a b = refl
+
+-- an error's number stands for it, and no number above the last is met
+pub block_error_back : (k : ℕ) → 0 < k → k ≤ 2 → block_number (block_error k) ≡ k
+block_error_back zero h l = absurd (omega arith)
+block_error_back (suc zero) h l = refl
+block_error_back (suc (suc k)) h l = omega arith
+
+pub line_error_back : (k : ℕ) → 0 < k → k ≤ 3 → line_number (line_error k) ≡ k
+line_error_back zero h l = absurd (omega arith)
+line_error_back (suc zero) h l = refl
+line_error_back (suc (suc zero)) h l = refl
+line_error_back (suc (suc (suc k))) h l = omega arith
