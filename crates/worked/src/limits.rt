@@ -1,10 +1,12 @@
 // The limits of a setting, a length and a symbol: what the calls refuse with 1, 2 and 3, and leave as it was.
 ghost use Rattle.std.specs.Prelude.{◌≡◌, ◌≤◌};
 
-use crate::expect::{Lent, encodes_front, refuses_front, setting};
+use crate::expect::{Lent, refuses_message, refuses_word, setting};
 use crate::say::say;
 use crate::slots::fresh_answers;
+use interleave::LineError;
 use std::io;
+use word::InputError;
 
 // What a setting is refused for, and a line's setting that stands.
 pub fn say_settings(rt: &impl Print) -> io::Result<()> {
@@ -21,9 +23,13 @@ pub fn say_settings(rt: &impl Print) -> io::Result<()> {
     // Catches zeros that start beyond a^1.
     say(rt, "b 2 refused 1", refuses_setting(3, 7, 4, 2))?;
     // Catches a line of EN 300 421 that is refused.
-    say(rt, "M I = n stands", fresh_answers(204, 0))?;
+    say(rt, "M I = n stands", fresh_answers(204, None))?;
     // Catches an n for which two bytes of a word may be sent fewer than I slots apart.
-    say(rt, "M I = n - I refused 1", fresh_answers(216, 1))
+    say(
+        rt,
+        "M I = n - I refused 1",
+        fresh_answers(216, Some(LineError::BadSetting)),
+    )
 }
 
 // What is refused 2 and 3 of a received word, and the order of the checks.
@@ -36,43 +42,43 @@ pub fn say_words(rt: &impl Print) -> io::Result<()> {
     say(
         rt,
         "short word refused 2",
-        refuses_word(3, sent, unmarked, lent(6, 7, 7), 2),
+        refuses_example(3, sent, unmarked, lent(6, 7, 7), InputError::BadLength),
     )?;
     // Catches marks taken as longer than they are.
     say(
         rt,
         "short marks refused 2",
-        refuses_word(3, sent, unmarked, lent(7, 6, 7), 2),
+        refuses_example(3, sent, unmarked, lent(7, 6, 7), InputError::BadLength),
     )?;
     // Catches a map that is written beyond its end, and a symbol that is looked at before its length: both are wrong here.
     say(
         rt,
         "short map refused 2",
-        refuses_word(3, large, unmarked, lent(7, 7, 6), 2),
+        refuses_example(3, large, unmarked, lent(7, 7, 6), InputError::BadLength),
     )?;
     // Catches a symbol that is no element, which the field of 8 does not have.
     say(
         rt,
         "symbol 8 refused 3",
-        refuses_word(3, large, unmarked, lent(7, 7, 7), 3),
+        refuses_example(3, large, unmarked, lent(7, 7, 7), InputError::BadSymbol),
     )?;
     // Catches a mark of 2 counted as two marks, or as one.
     say(
         rt,
         "mark 2 refused 3",
-        refuses_word(3, sent, marks, lent(7, 7, 7), 3),
+        refuses_example(3, sent, marks, lent(7, 7, 7), InputError::BadSymbol),
     )?;
     // Catches a length or a symbol that is looked at before the setting: all three are wrong here.
     say(
         rt,
         "setting first refused 1",
-        refuses_word(4, large, unmarked, lent(6, 7, 7), 1),
+        refuses_example(4, large, unmarked, lent(6, 7, 7), InputError::BadSetting),
     )?;
     // Catches a symbol that is looked at before the length: both are wrong here.
     say(
         rt,
         "length second refused 2",
-        refuses_word(3, large, unmarked, lent(6, 7, 7), 2),
+        refuses_example(3, large, unmarked, lent(6, 7, 7), InputError::BadLength),
     )
 }
 
@@ -82,19 +88,19 @@ pub fn say_messages(rt: &impl Print) -> io::Result<()> {
     say(
         rt,
         "short message refused 2",
-        refuses_message([7, 3, 2], 2, 7, 2),
+        refuses_example_message([7, 3, 2], 2, 7, InputError::BadLength),
     )?;
     // Catches an encoder that writes beyond a word, or a codeword without its end.
     say(
         rt,
         "short room refused 2",
-        refuses_message([7, 3, 2], 3, 6, 2),
+        refuses_example_message([7, 3, 2], 3, 6, InputError::BadLength),
     )?;
     // Catches an encoder that takes a symbol that is no element.
     say(
         rt,
         "message symbol 8 refused 3",
-        refuses_message([7, 8, 2], 3, 7, 3),
+        refuses_example_message([7, 8, 2], 3, 7, InputError::BadSymbol),
     )
 }
 
@@ -106,8 +112,22 @@ fn refuses_setting(m: usize, n: usize, r: usize, b: usize) -> bool
     let mut symbols = [1u8; 256];
     let zeros = [0u8; 256];
     let ones = [1u8; 256];
-    refuses_front(s, lent(n, n, n), &mut symbols, &zeros, 1, &ones)
-        && encodes_front(s, &ones, n - r, &mut symbols, n, 1, &ones)
+    refuses_word(
+        s,
+        lent(n, n, n),
+        &mut symbols,
+        &zeros,
+        InputError::BadSetting,
+        &ones,
+    ) && refuses_message(
+        s,
+        &ones,
+        n - r,
+        &mut symbols,
+        n,
+        InputError::BadSetting,
+        &ones,
+    )
 }
 
 fn lent(word: usize, marks: usize, map: usize) -> Lent
@@ -117,33 +137,26 @@ fn lent(word: usize, marks: usize, map: usize) -> Lent
 }
 
 // Whether 002's code over m refuses the first symbols of a word with the first of its marks.
-fn refuses_word(m: usize, word: [u8; 7], marks: [u8; 7], lent: Lent, number: u8) -> bool
+fn refuses_example(m: usize, word: [u8; 7], marks: [u8; 7], lent: Lent, why: InputError) -> bool
     requires { (lent.word ≤ 7) × (lent.marks ≤ 7) × (lent.map ≤ 7) }
 {
     let mut symbols = word;
-    refuses_front(
-        setting(m, 7, 4, 1),
-        lent,
-        &mut symbols,
-        &marks,
-        number,
-        &word,
-    )
+    refuses_word(setting(m, 7, 4, 1), lent, &mut symbols, &marks, why, &word)
 }
 
 // Whether 002's code refuses the first k symbols of a message for a word of n symbols.
-fn refuses_message(message: [u8; 3], k: usize, n: usize, number: u8) -> bool
+fn refuses_example_message(message: [u8; 3], k: usize, n: usize, why: InputError) -> bool
     requires { (k ≤ 3) × (n ≤ 7) }
 {
     let mut symbols = [6u8; 7];
     let after = [6u8; 7];
-    encodes_front(
+    refuses_message(
         setting(3, 7, 4, 1),
         &message,
         k,
         &mut symbols,
         n,
-        number,
+        why,
         &after,
     )
 }

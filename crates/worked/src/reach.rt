@@ -1,10 +1,10 @@
 // How far the decoder reaches in the longest word with the most check symbols: n = 255, r = 16.
 ghost use Rattle.std.specs.Prelude.{◌≡◌, ◌≤◌, length};
 
-use crate::expect::{Outcome, decodes, decodes_part, done, refused, setting};
+use crate::expect::{Outcome, decodes, decodes_part, done, setting};
 use crate::say::say;
 use std::io;
-use word::Setting;
+use word::{DecodeError, Setting};
 
 // What that word bears.
 pub fn say_reach(rt: &impl Print) -> io::Result<()> {
@@ -24,7 +24,7 @@ pub fn say_reach(rt: &impl Print) -> io::Result<()> {
     say(
         rt,
         "9 wrong refused 4",
-        word_answers(9, 0, refused(4), received(9), [0; 255]),
+        word_answers(9, 0, Err(DecodeError::BeyondReach), received(9), [0; 255]),
     )?;
     // Catches a decoder that stops short of r marked symbols.
     say(
@@ -48,7 +48,7 @@ pub fn say_reach(rt: &impl Print) -> io::Result<()> {
     say(
         rt,
         "part refused 4 stays",
-        part_answers(9, refused(4), [9; 239], [0; 255]),
+        part_answers(9, Err(DecodeError::BeyondReach), [9; 239], [0; 255]),
     )?;
     // Catches a part that is not of k symbols and is filled in front, or beyond its end.
     say(rt, "short part refused 2", short_part())
@@ -75,7 +75,7 @@ fn sent() -> [u8; 255]
 {
     let message = message();
     let mut symbols = [0u8; 255];
-    word::encode(longest(), &message, &mut symbols);
+    let _ = word::encode(longest(), &message, &mut symbols);
     symbols
 }
 
@@ -164,7 +164,7 @@ fn short_part() -> bool {
         &marks,
         &mut part,
         &mut map,
-        refused(2),
+        Err(DecodeError::BadLength),
         &after,
         &old,
     )

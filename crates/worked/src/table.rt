@@ -1,11 +1,10 @@
 // The worked table, P1 to P13, run through the calls.
-use crate::expect::{Outcome, decodes, done, encodes, refused, setting};
+use crate::expect::{Outcome, decodes, done, encodes, setting};
 use crate::heard::{is_newer, is_older};
 use crate::say::say_item;
 use crate::slots::comes_back;
-use field::Element;
 use std::io;
-use word::Setting;
+use word::{DecodeError, Setting};
 
 // The items of the field and of the word code.
 pub fn say_code(rt: &impl Print) -> io::Result<()> {
@@ -41,13 +40,25 @@ pub fn say_code(rt: &impl Print) -> io::Result<()> {
     say_item(
         rt,
         9,
-        decodes_s([0, 1, 2], [0, 0, 0], refused(4), [0, 1, 2], [0, 0, 0]),
+        decodes_s(
+            [0, 1, 2],
+            [0, 0, 0],
+            Err(DecodeError::BeyondReach),
+            [0, 1, 2],
+            [0, 0, 0],
+        ),
     )?;
     // Catches a marked symbol counted as free because it was right: three marks are more than r. Catches a map of the marks.
     say_item(
         rt,
         10,
-        decodes_s([1, 3, 2], [1, 1, 1], refused(4), [1, 3, 2], [0, 0, 0]),
+        decodes_s(
+            [1, 3, 2],
+            [1, 1, 1],
+            Err(DecodeError::BeyondReach),
+            [1, 3, 2],
+            [0, 0, 0],
+        ),
     )
 }
 
@@ -63,10 +74,7 @@ pub fn say_link(rt: &impl Print) -> io::Result<()> {
 
 // Whether a product is z.
 fn multiplies(m: usize, x: u8, y: u8, z: u8) -> bool {
-    match field::product(m, x, y) {
-        Element::Is(xy) => xy == z,
-        Element::BadField | Element::BadSymbol => false,
-    }
+    field::product(m, x, y) == Ok(z)
 }
 
 // The example of 002.
@@ -83,7 +91,7 @@ fn encodes_example() -> bool {
     let message = [7u8, 3, 2];
     let mut symbols = [0u8; 7];
     let after = [7u8, 3, 2, 5, 6, 4, 1];
-    encodes(example(), &message, &mut symbols, 0, &after)
+    encodes(example(), &message, &mut symbols, Ok(()), &after)
 }
 
 fn mends_example() -> bool {
@@ -107,7 +115,7 @@ fn encodes_s() -> bool {
     let message = [1u8];
     let mut symbols = [0u8; 3];
     let after = [1u8, 3, 2];
-    encodes(code_s(), &message, &mut symbols, 0, &after)
+    encodes(code_s(), &message, &mut symbols, Ok(()), &after)
 }
 
 // Whether code S has this outcome for a received word, and leaves these symbols in it and this map, whose old marks must not show.
@@ -135,7 +143,7 @@ fn spreads() -> bool {
     let words = [1u8, 3, 2, 2, 6, 4];
     let mut slots = [0u8; 6];
     let after = [1u8, 2, 3, 6, 2, 4];
-    interleave::spread(2, 3, &words, &mut slots) == 0 && slots == after
+    interleave::spread(2, 3, &words, &mut slots) == Ok(()) && slots == after
 }
 
 fn newer_by_difference() -> bool {
