@@ -1,6 +1,6 @@
 -- A step is a run over one byte: what the run's promise says of it is the step's.
 -- Assumes nothing.
-use Rattle.std.specs.Prelude.{◌≡◌, Ok, Err, List, [], ◌∷◌, ℕ, length}
+use Rattle.std.specs.Prelude.{Ok, Err, List, [], ◌∷◌, ℕ, length}
 use Rattle.std.proofs.Common.{ap, ◌∙◌}
 use Rattle.algebra.specs.Tests.{at}
 use Rattle.rings.specs.Run.{run}

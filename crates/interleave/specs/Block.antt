@@ -6,8 +6,8 @@ use Rattle.std.proofs.Math.Logic.Dec
 use Rattle.std.proofs.Math.Nat.{mul-add-mod_self_right, mul-add-div_right, div-eq_of_lt}
 use Rattle.std.proofs.Math.Decide.{ℕ_discrete, dec_le}
 use Rattle.algebra.specs.Lists.{tabulate, length_tabulate, get_or_tabulate}
-use Rattle.algebra.specs.Refusal.{need, need_yes, need_zero, if_zero}
-use Rattle.interleave.specs.Numbers.{block_error}
+use Rattle.algebra.specs.Refusal.{need, need_yes, need_zero, need_either, if_zero}
+use Rattle.interleave.specs.Numbers.{block_number, block_error, number_of, block_numbered}
 use Rattle.interleave.specs.declared.block.BlockError.{BlockError}
 
 -- m rows of n bytes as n rows of m: place i * m + w has byte i of row w
@@ -64,6 +64,24 @@ pub gather_once : (J n : ℕ) (slots words : List ℕ) (r s : Result (Unit {0}) 
 gather_once J n slots words r s x y p q = both r s x y (p.outcome ∙ sym q.outcome)
 
 -- ---- laws
+
+-- The answer's number is the paper's.
+block_most : (J n source target : ℕ) → block_refusal J n source target ≤ 2
+unfolding block_refusal
+block_most J n source target =
+    need_either _ 1 _ (λ z. z ≤ 2) (omega arith) (need_either _ 2 _ (λ z. z ≤ 2) (omega arith) (need_either _ 2 0 (λ z. z ≤ 2) (omega arith) (omega arith)))
+
+pub spread_number : (J n : ℕ) (words slots : List ℕ) (r : Result (Unit {0}) BlockError) (left : List ℕ) → Spread J n words slots r left
+    → number_of block_number r ≡ block_refusal J n (length words) (length slots)
+unfolding spreading
+spread_number J n words slots r left p =
+    ap (λ (z : Given). number_of block_number z.0) p.outcome ∙ block_numbered (λ (z : Given). z.0) _ _ _ (block_most J n (length words) (length slots)) refl refl
+
+pub gather_number : (J n : ℕ) (slots words : List ℕ) (r : Result (Unit {0}) BlockError) (left : List ℕ) → Gather J n slots words r left
+    → number_of block_number r ≡ block_refusal J n (length slots) (length words)
+unfolding gathering
+gather_number J n slots words r left p =
+    ap (λ (z : Given). number_of block_number z.0) p.outcome ∙ block_numbered (λ (z : Given). z.0) _ _ _ (block_most J n (length slots) (length words)) refl refl
 
 -- a block that is not refused
 pub record BlockFine (J n source target : ℕ) : Type 0 where

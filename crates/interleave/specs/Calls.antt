@@ -1,6 +1,6 @@
 -- Calls on a delay line that are not refused: each makes a run of the line's rings, and from a fresh line it gives what the step rule says
 -- (document 01, Delay line). This speaks of the promises alone. Assumes nothing.
-use Rattle.std.specs.Prelude.{◌≡◌, Result, Ok, Err, Bool, T, length}
+use Rattle.std.specs.Prelude.{◌≡◌, Ok, Bool, T, length}
 use Rattle.std.proofs.Math.Path.{refl, sym, ap}
 use Rattle.std.proofs.Common.{◌∙◌, arith, lit<}
 use Rattle.std.proofs.Math.Bool.{true, false}
@@ -17,8 +17,6 @@ use Rattle.interleave.specs.Line.{period, sent, received, reachable}
 use Rattle.interleave.specs.Setting.{Setting, Fine, ReceiverFine, memory_size, line_at, moved, line_run, line_done, receiver_done, receive_done, run_fine}
 use Rattle.interleave.specs.Promises.{Ready, SentAnswer, ReceivedAnswer, line_after, line_after_sent, line_after_received, byte_sent, byte_received, mark_received, blank, fresh_sender, fresh_receiver, FreshSender, FreshReceiver, send_step, receive_step, SendStep, ReceiveStep, send_run, receive_run, SendRun, ReceiveRun}
 use Rattle.interleave.specs.declared.line.Line.{Line}
-use Rattle.interleave.specs.declared.line.Sent.{Sent}
-use Rattle.interleave.specs.declared.line.Received.{Received}
 
 -- a call was answered 0 and has made the run over bs
 pub record Runs (back : Bool) (l : Line) (m bs : List ℕ) (number : ℕ) (later : Line) (left out : List ℕ) : Type 0 where

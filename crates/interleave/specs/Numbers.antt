@@ -3,7 +3,7 @@
 -- Assumes nothing.
 use Rattle.std.specs.Prelude.{◌≡◌, refl, ◌≢◌, Result, Ok, Err, ℕ, zero, suc, ◌≤◌, ◌<◌}
 use Rattle.std.proofs.Common.{ap, ◌∙◌, arith}
-use Rattle.algebra.specs.Refusal.{need, need_either, first, if_zero}
+use Rattle.algebra.specs.Refusal.{first, if_zero}
 use Rattle.interleave.specs.declared.block.BlockError.{BlockError}
 use Rattle.interleave.specs.declared.block.BlockError.TheVariants as block
 use Rattle.interleave.specs.declared.line.LineError.{LineError}
@@ -63,13 +63,30 @@ through f zero a b = refl
 through f (suc k) a b = refl
 
 -- an error's number stands for it, and no number above the last is met
-pub block_error_back : (k : ℕ) → 0 < k → k ≤ 2 → block_number (block_error k) ≡ k
+abbrev IsBack : {E : Type 0} → (E → ℕ) → (ℕ → E) → ℕ → Type 0
+IsBack number error most = (k : ℕ) → 0 < k → k ≤ most → number (error k) ≡ k
+
+pub block_error_back : IsBack block_number block_error 2
 block_error_back zero h l = absurd (omega arith)
 block_error_back (suc zero) h l = refl
 block_error_back (suc (suc k)) h l = omega arith
 
-pub line_error_back : (k : ℕ) → 0 < k → k ≤ 3 → line_number (line_error k) ≡ k
+pub line_error_back : IsBack line_number line_error 3
 line_error_back zero h l = absurd (omega arith)
 line_error_back (suc zero) h l = refl
 line_error_back (suc (suc zero)) h l = refl
 line_error_back (suc (suc (suc k))) h l = omega arith
+
+-- So a call that is refused by k is numbered k, and one that is not is numbered 0: `of` reads the answer out of all that the call gives.
+numbered : {A E O : Type 0} (number : E → ℕ) (error : ℕ → E) (most : ℕ) → IsBack number error most → (of : O → Result A E) (k : ℕ) (new old : O) → k ≤ most
+    → number_of number (of new) ≡ 0 → of old ≡ Err (error k) → number_of number (of (if_zero k new old)) ≡ k
+numbered number error most back of zero new old h e g = e
+numbered number error most back of (suc k) new old h e g = ap (number_of number) g ∙ back (suc k) (omega arith) h
+
+pub block_numbered : {A O : Type 0} (of : O → Result A BlockError) (k : ℕ) (new old : O) → k ≤ 2
+    → number_of block_number (of new) ≡ 0 → of old ≡ Err (block_error k) → number_of block_number (of (if_zero k new old)) ≡ k
+block_numbered of k new old h e g = numbered block_number block_error 2 block_error_back of k new old h e g
+
+pub line_numbered : {A O : Type 0} (of : O → Result A LineError) (k : ℕ) (new old : O) → k ≤ 3
+    → number_of line_number (of new) ≡ 0 → of old ≡ Err (line_error k) → number_of line_number (of (if_zero k new old)) ≡ k
+line_numbered of k new old h e g = numbered line_number line_error 3 line_error_back of k new old h e g

@@ -1,14 +1,14 @@
 -- What each call on a delay line answers and leaves in all that was lent to it (document 01, Delay line), and that no second answer meets its
 -- promise (document 01, What each call owes its caller).
 -- Assumes nothing.
-use Rattle.std.specs.Prelude.{◌≡◌, Result, Ok, Err, Bool, true, false, List, [], ◌∷◌, ℕ, ◌+◌, ◌%◌, length, replicate}
+use Rattle.std.specs.Prelude.{◌≡◌, refl, Result, Ok, Err, Bool, true, false, List, [], ◌∷◌, ℕ, ◌+◌, ◌%◌, length, replicate}
 use Rattle.std.proofs.Common.{sym, ap, ◌∙◌}
 use Rattle.algebra.specs.Refusal.{if_zero}
 use Rattle.rings.specs.Rings.{order}
 use Rattle.rings.specs.Delay.{line_out, line_kept}
-use Rattle.interleave.specs.Numbers.{line_error}
+use Rattle.interleave.specs.Numbers.{line_number, line_error, number_of, line_numbered}
 use Rattle.interleave.specs.Line.{period}
-use Rattle.interleave.specs.Setting.{memory_size, line_at, moved, line_run, line_refusal, receiver_refusal, receive_refusal}
+use Rattle.interleave.specs.Setting.{memory_size, line_at, moved, line_run, line_refusal, receiver_refusal, receive_refusal, line_numbers, receiver_numbers, receive_numbers}
 use Rattle.interleave.specs.declared.line.Line.{Line}
 use Rattle.interleave.specs.declared.line.LineError.{LineError}
 use Rattle.interleave.specs.declared.line.Sent.{Sent}
@@ -23,6 +23,10 @@ SentAnswer = Result Sent LineError
 
 abbrev pub ReceivedAnswer : Type 0
 ReceivedAnswer = Result Received LineError
+
+-- what a run of the receiver gives: its answer, both memories, bytes and marks
+abbrev Five : Type 0
+Five = Ready × List ℕ × List ℕ × List ℕ × List ℕ
 
 -- ---- a fresh line: position 0, and every byte of a memory is d: 0 for bytes, 1 for marks
 
@@ -89,7 +93,7 @@ pub record SendRun (l : Line) (m bs : List ℕ) (r : Ready) (left out : List ℕ
   pub outcome : ◌≡◌ {A = Ready × List ℕ × List ℕ} (r, left, out) (send_run l m bs)
 
 -- bytes and marks are two runs at one position
-unfoldable pub receive_run : Line → List ℕ → List ℕ → List ℕ → List ℕ → Ready × List ℕ × List ℕ × List ℕ × List ℕ
+unfoldable pub receive_run : Line → List ℕ → List ℕ → List ℕ → List ℕ → Five
 receive_run l m ms bs ks =
     let k = receive_refusal l (length m) ms (length bs) ks in
     let z = line_run true l m bs in
@@ -97,7 +101,7 @@ receive_run l m ms bs ks =
     if_zero k (Ok (moved l z.position), z.memory, y.memory, z.out, y.out) (Err (line_error k), m, ms, bs, ks)
 
 pub record ReceiveRun (l : Line) (m ms bs ks : List ℕ) (r : Ready) (left left_marks out out_marks : List ℕ) : Type 0 where
-  pub outcome : ◌≡◌ {A = Ready × List ℕ × List ℕ × List ℕ × List ℕ} (r, left, left_marks, out, out_marks) (receive_run l m ms bs ks)
+  pub outcome : ◌≡◌ {A = Five} (r, left, left_marks, out, out_marks) (receive_run l m ms bs ks)
 
 -- ---- what a caller reads of an answer: the line for the next call, the byte that leaves, and its mark. Under a refusal the line is the one
 -- that was handed in, and byte and mark are 0.
@@ -134,11 +138,11 @@ two {A = A} r s x y e = (ap (λ (z : A × List ℕ). z.0) e, ap (λ (z : A × Li
 three : {A : Type 0} (r s : A) (x y u v : List ℕ) → ◌≡◌ {A = A × List ℕ × List ℕ} (r, x, u) (s, y, v) → (r ≡ s) × (x ≡ y) × (u ≡ v)
 three {A = A} r s x y u v e = (ap (λ (z : A × List ℕ × List ℕ). z.0) e, ap (λ (z : A × List ℕ × List ℕ). z.1) e, ap (λ (z : A × List ℕ × List ℕ). z.2) e)
 
-five : (r s : Ready) (x y u v a b c d : List ℕ) → ◌≡◌ {A = Ready × List ℕ × List ℕ × List ℕ × List ℕ} (r, x, u, a, c) (s, y, v, b, d)
+five : (r s : Ready) (x y u v a b c d : List ℕ) → ◌≡◌ {A = Five} (r, x, u, a, c) (s, y, v, b, d)
     → (r ≡ s) × (x ≡ y) × (u ≡ v) × (a ≡ b) × (c ≡ d)
 five r s x y u v a b c d e = (part (λ z. z.0), part (λ z. z.1), part (λ z. z.2), part (λ z. z.3), part (λ z. z.4))
   where
-    part : {B : Type 0} (f : Ready × List ℕ × List ℕ × List ℕ × List ℕ → B) → f (r, x, u, a, c) ≡ f (s, y, v, b, d)
+    part : {B : Type 0} (f : Five → B) → f (r, x, u, a, c) ≡ f (s, y, v, b, d)
     part f = ap f e
 
 pub fresh_sender_once : (I M n : ℕ) (m : List ℕ) (r s : Ready) (x y : List ℕ) → FreshSender I M n m r x → FreshSender I M n m s y → (r ≡ s) × (x ≡ y)
@@ -159,3 +163,41 @@ send_run_once l m bs r s x y u v p q = three r s x y u v (p.outcome ∙ sym q.ou
 pub receive_run_once : (l : Line) (m ms bs ks : List ℕ) (r s : Ready) (x y u v a b c d : List ℕ) → ReceiveRun l m ms bs ks r x u a c → ReceiveRun l m ms bs ks s y v b d
     → (r ≡ s) × (x ≡ y) × (u ≡ v) × (a ≡ b) × (c ≡ d)
 receive_run_once l m ms bs ks r s x y u v a b c d p q = five r s x y u v a b c d (p.outcome ∙ sym q.outcome)
+
+-- ---- the answer's number is the paper's
+
+pub fresh_sender_number : (I M n : ℕ) (m : List ℕ) (r : Ready) (left : List ℕ) → FreshSender I M n m r left → number_of line_number r ≡ line_refusal (line_at I M n 0) (length m)
+unfolding fresh_sender
+fresh_sender_number I M n m r left p =
+    ap (λ (z : Ready × List ℕ). number_of line_number z.0) p.outcome ∙ line_numbered (λ (z : Ready × List ℕ). z.0) _ _ _ (line_numbers _ _) refl refl
+
+pub fresh_receiver_number : (I M n : ℕ) (m ms : List ℕ) (r : Ready) (x y : List ℕ) → FreshReceiver I M n m ms r x y
+    → number_of line_number r ≡ receiver_refusal (line_at I M n 0) (length m) (length ms)
+unfolding fresh_receiver
+fresh_receiver_number I M n m ms r x y p =
+    ap (λ (z : Ready × List ℕ × List ℕ). number_of line_number z.0) p.outcome
+    ∙ line_numbered (λ (z : Ready × List ℕ × List ℕ). z.0) _ _ _ (receiver_numbers _ _ _) refl refl
+
+pub send_step_number : (l : Line) (m : List ℕ) (b : ℕ) (r : SentAnswer) (left : List ℕ) → SendStep l m b r left → number_of line_number r ≡ line_refusal l (length m)
+unfolding send_step
+send_step_number l m b r left p =
+    ap (λ (z : SentAnswer × List ℕ). number_of line_number z.0) p.outcome ∙ line_numbered (λ (z : SentAnswer × List ℕ). z.0) _ _ _ (line_numbers _ _) refl refl
+
+pub receive_step_number : (l : Line) (m ms : List ℕ) (b k : ℕ) (r : ReceivedAnswer) (x y : List ℕ) → ReceiveStep l m ms b k r x y
+    → number_of line_number r ≡ receive_refusal l (length m) ms 1 (k ∷ [])
+unfolding receive_step
+receive_step_number l m ms b k r x y p =
+    ap (λ (z : ReceivedAnswer × List ℕ × List ℕ). number_of line_number z.0) p.outcome
+    ∙ line_numbered (λ (z : ReceivedAnswer × List ℕ × List ℕ). z.0) _ _ _ (receive_numbers _ _ _ _ _) refl refl
+
+pub send_run_number : (l : Line) (m bs : List ℕ) (r : Ready) (left out : List ℕ) → SendRun l m bs r left out → number_of line_number r ≡ line_refusal l (length m)
+unfolding send_run
+send_run_number l m bs r left out p =
+    ap (λ (z : Ready × List ℕ × List ℕ). number_of line_number z.0) p.outcome
+    ∙ line_numbered (λ (z : Ready × List ℕ × List ℕ). z.0) _ _ _ (line_numbers _ _) refl refl
+
+pub receive_run_number : (l : Line) (m ms bs ks : List ℕ) (r : Ready) (x y a b : List ℕ) → ReceiveRun l m ms bs ks r x y a b
+    → number_of line_number r ≡ receive_refusal l (length m) ms (length bs) ks
+unfolding receive_run
+receive_run_number l m ms bs ks r x y a b p =
+    ap (λ (z : Five). number_of line_number z.0) p.outcome ∙ line_numbered (λ (z : Five). z.0) _ _ _ (receive_numbers _ _ _ _ _) refl refl

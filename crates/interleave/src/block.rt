@@ -56,7 +56,7 @@ fn check_block(depth: usize, n: usize, source: usize, target: usize) -> Result<(
 }
 
 // m rows of n bytes become n rows of m, four source rows at a time: each pass over the target then writes four bytes that lie together.
-// The step is four rows or one, so that the row is counted by hand.
+// The step is four rows or one, so the row is counted by hand.
 fn transpose(m: usize, n: usize, source: &[u8], target: &mut [u8])
     requires { (0 < m) × (length source.now ≡ m * n) × (length target.old ≡ n * m) }
     ensures { target.new ≡ transposed m n source.now }
@@ -64,36 +64,23 @@ fn transpose(m: usize, n: usize, source: &[u8], target: &mut [u8])
     let mut row = 0;
     while row < m {
         if m - row < 4 {
-            move_row(m, n, row, source, target);
+            move_rows::<1>(m, n, row, source, target);
             row += 1;
         } else {
-            move_four_rows(m, n, row, source, target);
+            move_rows::<4>(m, n, row, source, target);
             row += 4;
         }
     }
 }
 
-// The four rows from `row` on go to their columns; those before it stand in theirs already.
-fn move_four_rows(m: usize, n: usize, row: usize, source: &[u8], target: &mut [u8])
-    requires { (row + 4 ≤ m) × (length source.now ≡ m * n) × RowsMoved m n row source.now target.old }
-    ensures { RowsMoved m n (row + 4) source.now target.new }
+// The K rows from `row` on go to their columns; those before it stand in theirs already.
+fn move_rows<const K: usize>(m: usize, n: usize, row: usize, source: &[u8], target: &mut [u8])
+    requires { (row + K ≤ m) × (length source.now ≡ m * n) × RowsMoved m n row source.now target.old }
+    ensures { RowsMoved m n (row + K) source.now target.new }
 {
     for i in 0..n {
-        let from = row * n + i;
-        let to = i * m + row;
-        target[to] = source[from];
-        target[to + 1] = source[from + n];
-        target[to + 2] = source[from + 2 * n];
-        target[to + 3] = source[from + 3 * n];
-    }
-}
-
-// One row goes to its column, where fewer than four are left.
-fn move_row(m: usize, n: usize, row: usize, source: &[u8], target: &mut [u8])
-    requires { (row + 1 ≤ m) × (length source.now ≡ m * n) × RowsMoved m n row source.now target.old }
-    ensures { RowsMoved m n (row + 1) source.now target.new }
-{
-    for i in 0..n {
-        target[i * m + row] = source[row * n + i];
+        for k in 0..K {
+            target[i * m + row + k] = source[(row + k) * n + i];
+        }
     }
 }

@@ -3,7 +3,7 @@ ghost use Rattle.std.specs.Prelude.{◌≡◌, ◌≤◌, length};
 ghost use Rattle.rings.specs.Run.{ran};
 ghost use Rattle.interleave.specs.Numbers.{answered, line_number, line_error};
 ghost use Rattle.interleave.specs.Line.{common, period};
-ghost use Rattle.interleave.specs.Setting.{line_refusal, receiver_refusal, line_at, moved, line_run, Fine};
+ghost use Rattle.interleave.specs.Setting.{line_refusal, receiver_refusal, line_at, line_run, Fine};
 
 use rings::run;
 
@@ -54,6 +54,7 @@ pub struct Received {
 
 // The least number that each of 1 to branches - 1 divides. Arms, and no table: a table would be laid out anew at each call. Each number has
 // its own arm, so that the compiler makes one load of them all.
+#[tactic(auto, unfolding(crate::specs::Line::common))]
 fn common(branches: usize) -> usize
     ensures { result ≡ common branches }
 {
@@ -99,8 +100,8 @@ impl Line {
 
     // Whether a line with a memory of `length` bytes is refused: the setting and the position, which some number of steps from a fresh
     // line must reach, then the length. Within the limits the products fit.
-    pub fn check(self, length: usize) -> Result<(), LineError>
-        ensures { result ≡ answered line_error (line_refusal self length) tt }
+    pub fn check(&self, length: usize) -> Result<(), LineError>
+        ensures { result ≡ answered line_error (line_refusal self.now length) tt }
     {
         let branches = self.branches;
         let unit = self.unit;
@@ -118,8 +119,8 @@ impl Line {
     }
 
     // The same of a receiver, whose second memory holds the marks.
-    pub fn check_receiver(self, length: usize, marks: usize) -> Result<(), LineError>
-        ensures { result ≡ answered line_error (receiver_refusal self length marks) tt }
+    pub fn check_receiver(&self, length: usize, marks: usize) -> Result<(), LineError>
+        ensures { result ≡ answered line_error (receiver_refusal self.now length marks) tt }
     {
         self.check(length)?;
         if marks != length {
@@ -128,15 +129,15 @@ impl Line {
         Ok(())
     }
 
-    // A step for each of the bytes, in order; gives the line after them. With `back` the rings are in the receiver's order.
-    pub fn run(self, back: bool, memory: &mut [u8], bytes: &mut [u8]) -> Line
-        requires { Fine self (length memory.old) }
-        ensures steps { ran bytes.new memory.new result.position ≡ line_run back self memory.old bytes.old }
-        ensures line { result ≡ moved self result.position }
+    // A step for each of the bytes, in order; gives the position after them. With `back` the rings are in the receiver's order. A line is
+    // lent here and not handed over: it would be copied through memory, and a step would take twice as long.
+    pub fn run(&self, back: bool, memory: &mut [u8], bytes: &mut [u8]) -> usize
+        requires { Fine self.now (length memory.old) }
+        ensures { ran bytes.new memory.new result ≡ line_run back self.now memory.old bytes.old }
     {
         let branches = self.branches;
         let unit = self.unit;
-        let position = run(
+        run(
             branches,
             unit,
             back,
@@ -144,7 +145,6 @@ impl Line {
             self.position,
             memory,
             bytes,
-        );
-        Line { position, ..self }
+        )
     }
 }

@@ -58,21 +58,21 @@ pub fn receive_run(
 ) -> Result<Line, LineError>
     ensures { ReceiveRun line memory.old held.old bytes.old marks.old result memory.new held.new bytes.new marks.new }
 {
-    check_run(line, memory.len(), held, bytes.len(), marks)?;
-    let later = line.run(true, memory, bytes);
+    check_run(&line, memory.len(), held, bytes.len(), marks)?;
+    let position = line.run(true, memory, bytes);
     line.run(true, held, marks);
-    Ok(later)
+    Ok(Line { position, ..line })
 }
 
 // Whether a run of `many` bytes with these marks is refused.
 fn check_run(
-    line: Line,
+    line: &Line,
     length: usize,
     held: &[u8],
     many: usize,
     marks: &[u8],
 ) -> Result<(), LineError>
-    ensures { result ≡ answered line_error (receive_refusal line length held.now many marks.now) tt }
+    ensures { result ≡ answered line_error (receive_refusal line.now length held.now many marks.now) tt }
 {
     line.check_receiver(length, held.len())?;
     if marks.len() != many {

@@ -38,5 +38,6 @@ pub fn send_run(line: Line, memory: &mut [u8], bytes: &mut [u8]) -> Result<Line,
     ensures { SendRun line memory.old bytes.old result memory.new bytes.new }
 {
     line.check(memory.len())?;
-    Ok(line.run(false, memory, bytes))
+    let position = line.run(false, memory, bytes);
+    Ok(Line { position, ..line })
 }

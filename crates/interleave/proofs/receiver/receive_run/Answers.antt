@@ -1,5 +1,5 @@
 -- `receive_run` meets its contract: refused, all stays; else `Line::run` has made the steps, of the bytes and of the marks.
-use Rattle.std.proofs.Common.{refl, sym, ap, ◌∙◌}
+use Rattle.std.proofs.Common.{refl}
 use Rattle.std.proofs.lemmas.Result.{err_from_is_err_and}
 use Rattle.algebra.specs.Refusal.{kept}
 use Rattle.interleave.specs.Numbers.{line_error, passed, failed}
@@ -14,8 +14,8 @@ returns-in_err-check_run c =
     let (ne, same) = failed line_error _ _ _ c.in_err-check_run.ensures in
     record { outcome = rw (p.1, p.2, same) (kept _ _ _ ne) }
 
-pub run-later-requires : goal.run-later-requires
-run-later-requires c = (receive_fine _ _ _ _ _ (passed line_error _ _ _ c.in_ok-check_run.ensures)).receiver.line
+pub run-position-requires : goal.run-position-requires
+run-position-requires c = (receive_fine _ _ _ _ _ (passed line_error _ _ _ c.in_ok-check_run.ensures)).receiver.line
 
 pub run-requires : goal.run-requires
 run-requires c =
@@ -24,5 +24,4 @@ run-requires c =
 
 pub returns : goal.returns
 unfolding receive_run
-returns c =
-    record { outcome = rw (passed line_error _ _ _ c.in_ok-check_run.ensures, ← c.run-later.ensures.steps, ← c.run.ensures.steps, ← c.run-later.ensures.line) refl }
+returns c = record { outcome = rw (passed line_error _ _ _ c.in_ok-check_run.ensures, ← c.run-position.ensures, ← c.run.ensures) refl }

@@ -1,7 +1,6 @@
 -- `send_run` meets its contract: refused, all stays; else `Line::run` has made the steps.
-use Rattle.std.proofs.Common.{refl, sym, ap, ◌∙◌}
+use Rattle.std.proofs.Common.{refl}
 use Rattle.std.proofs.lemmas.Result.{err_from_is_err_and}
-use Rattle.rings.specs.Run.{Ran}
 use Rattle.algebra.specs.Refusal.{kept}
 use Rattle.interleave.specs.Numbers.{line_error, passed, failed}
 use Rattle.interleave.specs.Setting.{line_fine}
@@ -15,11 +14,9 @@ returns-in_err-check c =
     let (ne, same) = failed line_error _ _ _ c.in_err-check.ensures in
     record { outcome = rw (p.1, p.2, same) (kept _ _ _ ne) }
 
-pub run-requires : goal.run-requires
-run-requires c = line_fine _ _ (passed line_error _ _ _ c.in_ok-check.ensures)
+pub run-position-requires : goal.run-position-requires
+run-position-requires c = line_fine _ _ (passed line_error _ _ _ c.in_ok-check.ensures)
 
 pub returns : goal.returns
 unfolding send_run
-returns c =
-    let z = sym c.run.ensures.steps in
-    record { outcome = rw (passed line_error _ _ _ c.in_ok-check.ensures, z, ← c.run.ensures.line) refl }
+returns c = record { outcome = rw (passed line_error _ _ _ c.in_ok-check.ensures, ← c.run-position.ensures) refl }

@@ -1,5 +1,5 @@
 -- `slots::take_word` meets its contract: the front of the array is what `copy_word` left there.
-use Rattle.std.proofs.Common.{◌≤◌, length, arith}
+use Rattle.std.proofs.Common.{arith}
 use Rattle.interleave.specs.Slots.{taken}
 use Rattle.interleave.proofs.slots.take_word.Goals as goal
 

@@ -1,6 +1,0 @@
--- `move_four_rows` meets its contract. The invariant: the rows before `row` are in their columns, and so are the bytes below i of the next four.
-use Rattle.interleave.proofs.Rows.{Moving}
-use Rattle.interleave.proofs.block.move_four_rows.Given as goal
-
-abbrev pub invariant-loop-i : goal.invariant-loop-i
-invariant-loop-i l = Moving l.m l.n l.row 4 l.i l.source l.target
