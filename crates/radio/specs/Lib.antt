@@ -1,5 +1,6 @@
 pub mod Shown
 pub mod Words
+pub mod Blocks
 pub mod Lines
 pub mod Frames
 pub mod Records

@@ -4,7 +4,9 @@ ghost use Rattle.word.specs.Setting.{allowed};
 ghost use Rattle.radio.specs.Words.{code_of, decoded_seen, clean_seen, WordEncode, WordDecode, WordDecodePart, WordIsClean};
 
 use word::numbers::{encoded_number, figures_of, number_of};
-use word::{Clean, Decoded, Figures, Setting, decode, decode_part, encode, is_allowed, is_clean};
+use word::{
+    DecodeError, Figures, InputError, Setting, decode, decode_part, encode, is_allowed, is_clean,
+};
 
 // A word code as C sets it. 32 bits hold every number that C is likely to hand in by mistake, -1 too, so that it is refused.
 #[repr(C)]
@@ -47,10 +49,10 @@ impl From<CodeSetting> for Setting {
 }
 
 // A decoder's answer as C sees it.
-impl From<Decoded> for WordAnswer {
+impl From<Result<Figures, DecodeError>> for WordAnswer {
     ghost from_gives = { λ d r. r ≡ decoded_seen d };
 
-    fn from(d: Decoded) -> WordAnswer {
+    fn from(d: Result<Figures, DecodeError>) -> WordAnswer {
         WordAnswer {
             answer: number_of(d),
             figures: figures_of(d),
@@ -59,16 +61,13 @@ impl From<Decoded> for WordAnswer {
 }
 
 // The answer of a word that is only asked about, as C sees it.
-impl From<Clean> for WordClean {
+impl From<Result<bool, InputError>> for WordClean {
     ghost from_gives = { λ d r. r ≡ clean_seen d };
 
-    fn from(d: Clean) -> WordClean {
+    fn from(d: Result<bool, InputError>) -> WordClean {
         let (answer, clean) = match d {
-            Clean::Yes => (0, 1),
-            Clean::No => (0, 0),
-            Clean::BadSetting => (1, 0),
-            Clean::BadLength => (2, 0),
-            Clean::BadSymbol => (3, 0),
+            Ok(clean) => (0, clean as u8),
+            Err(e) => (e.number(), 0),
         };
         WordClean { answer, clean }
     }
