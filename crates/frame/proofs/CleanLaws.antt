@@ -1,11 +1,12 @@
 -- What a clean frame is: each of its words is a codeword. And what receiving it gives: with no marks no word is changed, and a good trailer is accepted
 -- with e = f = bits = 0. This stands here, and not in specs/, since edits in must-fail/ turn what a clean frame is, and what figures and map receiving gives.
 -- Assumes nothing.
-use Rattle.std.specs.Prelude.{◌≡◌, Bool, ℕ, zero, suc, ◌+◌, ◌*◌, ◌/◌, ◌%◌, ◌≤◌, ◌<◌, T, if◌then◌else◌}
+use Rattle.std.specs.Prelude.{◌≡◌, Result, Bool, ℕ, zero, suc, ◌+◌, ◌*◌, ◌/◌, ◌%◌, ◌≤◌, ◌<◌, T, if◌then◌else◌}
 use Rattle.std.proofs.Math.Path.{refl, sym, ap}
 use Rattle.std.proofs.Common.{◌∙◌, div-lt_iff_lt-mul, mul-zero, not-suc-le-zero}
 use Rattle.std.proofs.Math.Bool.{true, false}
 use mathlib.Core.List.{List, []}
+use Rattle.std.specs.declared.option.Option as Rust
 use Rattle.std.proofs.Math.Option
 use Rattle.std.proofs.Math.Option.{Option, some, none}
 use Rattle.std.proofs.Math.Nat.{mod-lt}
@@ -27,14 +28,15 @@ use Rattle.word.specs.Answers.{no_figures, figures}
 use Rattle.word.specs.Clean.Laws.{no_marks, kept_figures, clean_kept, kept_clean}
 use Rattle.word.specs.declared.Setting.{Setting}
 use Rattle.interleave.specs.Slots.{word_in, slot_byte, word_rule, length_word, word_back, spread_rule}
-use Rattle.frame.specs.Frame.{word_setting, area_size, slot_count, is_none, corrected_word, message_of, figures_at, changes_at, beyond, area_received, figures_received, map_received, trailer_good, ReceiveOutcome, number_of, receive_outcome, settled, decoded_frame, receiving}
+use Rattle.frame.specs.Frame.{word_setting, area_size, slot_count, is_none, corrected_word, message_of, figures_at, changes_at, beyond, area_received, figures_received, map_received, trailer_good, ReceiveOutcome, number_of, received_of, receive_outcome, settled, decoded_frame, receiving}
 use Rattle.frame.specs.Clean.{is_yes, unclean_word, CleanOutcome, clean_outcome, is_unclean, unclean, found, clean_refusal, cleanness}
 use Rattle.frame.specs.Promises.{Receives, IsClean}
 use Rattle.frame.specs.Checks.{ReceiveChecked, receive_passes, CleanChecked, clean_passes}
 use Rattle.frame.specs.Mapping.{zeros_at}
 use Rattle.frame.specs.declared.setting.Framing.{Framing}
+use Rattle.frame.specs.declared.setting.ReceiveError.{ReceiveError}
 use Rattle.frame.specs.declared.setting.Received.{Received}
-use Rattle.frame.specs.declared.clean.Clean.{Clean}
+use Rattle.frame.specs.declared.clean.CleanError.{CleanError}
 
 positive : (n j t : ℕ) → t < n * j → 0 < j
 positive n zero t l = absurd (not-suc-le-zero (rw (mul-zero n) at l))
@@ -52,7 +54,7 @@ module _ (f : Framing) (slots : List ℕ) where
   abbrev word : ℕ → List ℕ
   word w = word_in J f.n slots w
 
-  module _ (c : CleanChecked f slots) (d : Clean) (p : IsClean f slots d) where
+  module _ (c : CleanChecked f slots) (d : Result (Rust.Option ℕ) CleanError) (p : IsClean f slots d) where
     told : clean_outcome d ≡ found J (unclean f slots)
     unfolding cleanness
     told = p.outcome ∙ sym (new (clean_refusal f slots) _ _ (sym (clean_passes f slots c)))
@@ -170,8 +172,8 @@ module _ (f : Framing) (slots : List ℕ) where
 
   -- ---- the two calls
 
-  module _ (c : CleanChecked f slots) (d : Clean) (p : IsClean f slots d) (area map : List ℕ) (area_size_lem : length area ≡ area_size f) (map_size : length map ≡ slot_count f)
-      (r : Received) (left left_map : List ℕ) (q : Receives f slots quiet area map r left left_map) where
+  module _ (c : CleanChecked f slots) (d : Result (Rust.Option ℕ) CleanError) (p : IsClean f slots d) (area map : List ℕ) (area_size_lem : length area ≡ area_size f) (map_size : length map ≡ slot_count f)
+      (r : Result Received ReceiveError) (left left_map : List ℕ) (q : Receives f slots quiet area map r left left_map) where
     given : ReceiveChecked f slots quiet area map
     given = record {
       limits = c.limits;
@@ -202,7 +204,7 @@ module _ (f : Framing) (slots : List ℕ) where
 
     -- a good one is accepted, and nothing was wrong or changed
     pub clean_accepted : is_yes d ≡ true → trailer_good (area_size f) area_taken ≡ true
-        → (number_of r.verdict ≡ 0) × (r.figures ≡ replicate 16 no_figures) × (left ≡ area_taken) × (left_map ≡ quiet)
+        → (number_of r ≡ 0) × ((received_of r).figures ≡ replicate 16 no_figures) × (left ≡ area_taken) × (left_map ≡ quiet)
     unfolding settled
     clean_accepted y good = (
       ap (λ (o : ReceiveOutcome). o.number) (clean_settles y) ∙ rw good,
@@ -212,15 +214,15 @@ module _ (f : Framing) (slots : List ℕ) where
     )
 
     -- and a bad one is refused 5: a clean frame is never beyond reach
-    pub clean_refused_5 : is_yes d ≡ true → trailer_good (area_size f) area_taken ≡ false → number_of r.verdict ≡ 5
+    pub clean_refused_5 : is_yes d ≡ true → trailer_good (area_size f) area_taken ≡ false → number_of r ≡ 5
     unfolding settled
     clean_refused_5 y bad = ap (λ (o : ReceiveOutcome). o.number) (clean_settles y) ∙ rw bad
 
     -- an accepted frame is clean exactly where its map is all 0
-    within_reach : number_of r.verdict ≡ 0 → J ≤ beyond f slots quiet
+    within_reach : number_of r ≡ 0 → J ≤ beyond f slots quiet
     unfolding decoded_frame
     within_reach z = elim (dec_lt (beyond f slots quiet) J) [
-      | yes l ↦ let four : number_of r.verdict ≡ 4 = ap (λ (o : ReceiveOutcome). o.number) received ∙ rw (lt-ltb (beyond f slots quiet) J l) in absurd (omega arith)
+      | yes l ↦ let four : number_of r ≡ 4 = ap (λ (o : ReceiveOutcome). o.number) received ∙ rw (lt-ltb (beyond f slots quiet) J l) in absurd (omega arith)
       | no l ↦ omega arith
     ]
 
@@ -228,15 +230,15 @@ module _ (f : Framing) (slots : List ℕ) where
     unfolding decoded_frame
     settles l = received ∙ rw (le-ltb (beyond f slots quiet) J l)
 
-    map_told : number_of r.verdict ≡ 0 → left_map ≡ map_received f slots quiet
+    map_told : number_of r ≡ 0 → left_map ≡ map_received f slots quiet
     unfolding settled
     map_told z = go (trailer_good (area_size f) (area_received f slots quiet)) refl
       where
         go : (b : Bool) → trailer_good (area_size f) (area_received f slots quiet) ≡ b → left_map ≡ map_received f slots quiet
         go true e = ap (λ (o : ReceiveOutcome). o.map) (settles (within_reach z)) ∙ rw e
-        go false e = let five : number_of r.verdict ≡ 5 = ap (λ (o : ReceiveOutcome). o.number) (settles (within_reach z)) ∙ rw e in absurd (omega arith)
+        go false e = let five : number_of r ≡ 5 = ap (λ (o : ReceiveOutcome). o.number) (settles (within_reach z)) ∙ rw e in absurd (omega arith)
 
-    reached : number_of r.verdict ≡ 0 → (w : ℕ) → w < J → is_none (corrected_word f slots quiet w) ≡ false
+    reached : number_of r ≡ 0 → (w : ℕ) → w < J → is_none (corrected_word f slots quiet w) ≡ false
     unfolding beyond
     reached z w l = (first_tells J (λ i. is_none (corrected_word f slots quiet i))).before w (omega (arith, within_reach z))
 
@@ -247,7 +249,7 @@ module _ (f : Framing) (slots : List ℕ) where
         sym (word_back J f.n (changes_at f slots quiet) (λ i h. length_changes (word i) _ ∙ length_word J f.n slots i) w l) ∙ ap (λ (v : List ℕ). word_in J f.n v w) (sym m ∙ e)
         ∙ quiet_word w ∙ ap (λ (k : ℕ). replicate k 0) (sym (length_word J f.n slots w))
 
-    pub accepted_clean : number_of r.verdict ≡ 0 → left_map ≡ quiet → is_yes d ≡ true
+    pub accepted_clean : number_of r ≡ 0 → left_map ≡ quiet → is_yes d ≡ true
     unfolding corrected_word changes_at
     accepted_clean z e = keeps_clean λ w l. keep w l (corrected_word f slots quiet w) refl (reached z w l)
       where

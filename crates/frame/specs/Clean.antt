@@ -1,6 +1,6 @@
 -- Document 02, No. 9: whether every word of a frame is a codeword as received, and which is the first that is not. The trailer is not looked at.
 -- Assumes nothing.
-use Rattle.std.specs.Prelude.{Bool, true, false, not, List, ℕ, ltb, length, if◌then◌else◌}
+use Rattle.std.specs.Prelude.{Bool, true, false, not, Result, Ok, Err, Option, Some, None, List, ℕ, ltb, length, if◌then◌else◌}
 use Rattle.std.proofs.Math.Decide.{ℕ_discrete}
 use Rattle.algebra.specs.Tests.{first_below}
 use Rattle.algebra.specs.Refusal.{need, if_zero, passes}
@@ -8,35 +8,32 @@ use Rattle.word.specs.Codeword.{is_codeword}
 use Rattle.interleave.specs.Slots.{word_in}
 use Rattle.frame.specs.Frame.{word_setting, slot_count, allowed_frame}
 use Rattle.frame.specs.declared.setting.Framing.{Framing}
-use Rattle.frame.specs.declared.clean.Clean.{Clean}
-use Rattle.frame.specs.declared.clean.Clean.TheVariants.{Yes, No, BadSetting, BadLength}
+use Rattle.frame.specs.declared.clean.CleanError.{CleanError}
+use Rattle.frame.specs.declared.clean.CleanError.TheVariants.{BadSetting, BadLength}
 
 -- the code's answer in this paper's terms: its number, whether all words are codewords, and the first that is none
-abbrev pub clean_number : Clean → ℕ
-clean_number Yes = 0
-clean_number (No w) = 0
-clean_number BadSetting = 1
-clean_number BadLength = 2
+abbrev pub clean_number : {A : Type 0} → Result A CleanError → ℕ
+clean_number (Ok w) = 0
+clean_number (Err BadSetting) = 1
+clean_number (Err BadLength) = 2
 
-abbrev pub is_yes : Clean → Bool
-is_yes Yes = true
-is_yes (No w) = false
-is_yes BadSetting = false
-is_yes BadLength = false
+abbrev pub is_yes : Result (Option ℕ) CleanError → Bool
+is_yes (Ok None) = true
+is_yes (Ok (Some w)) = false
+is_yes (Err e) = false
 
 -- 0 where the frame is clean or refused
-abbrev pub unclean_word : Clean → ℕ
-unclean_word Yes = 0
-unclean_word (No w) = w
-unclean_word BadSetting = 0
-unclean_word BadLength = 0
+abbrev pub unclean_word : Result (Option ℕ) CleanError → ℕ
+unclean_word (Ok None) = 0
+unclean_word (Ok (Some w)) = w
+unclean_word (Err e) = 0
 
 pub record CleanOutcome : Type 0 where
   pub number : ℕ
   pub clean : Bool
   pub word : ℕ
 
-abbrev pub clean_outcome : Clean → CleanOutcome
+abbrev pub clean_outcome : Result (Option ℕ) CleanError → CleanOutcome
 clean_outcome d = record { number = clean_number d; clean = is_yes d; word = unclean_word d }
 
 -- word w is no codeword as received

@@ -1,6 +1,6 @@
 -- The words of a received frame: one that is decoded, and the loop that decodes them into their parts of the area.
 -- Assumes nothing.
-use Rattle.std.specs.Prelude.{◌≡◌, Bool, true, false, List, ℕ, zero, suc, ◌+◌, ◌*◌, ◌≤◌, ◌<◌, set, take, T, eqb, if◌then◌else◌}
+use Rattle.std.specs.Prelude.{◌≡◌, Bool, true, false, Result, List, ℕ, zero, suc, ◌+◌, ◌*◌, ◌≤◌, ◌<◌, set, take, T, eqb, if◌then◌else◌}
 use Rattle.std.proofs.Math.Path.{refl, sym, ap}
 use Rattle.std.proofs.Common.{◌∙◌, not-suc-le-zero, mul-le-mul_right, arith, lt-ltb, le-ltb, below_more, length-set, ext_get_or, length-take-le, get_or-take, get_or-set_same, get_or-set_other}
 use Rattle.std.proofs.Math.Option.{Option, some, none}
@@ -17,7 +17,7 @@ use Rattle.word.specs.Promises.{DecodesPart, decodes_part_once}
 use Rattle.word.specs.Refusals.{Checked}
 use Rattle.word.specs.Met.{part_found, part_lost}
 use Rattle.word.specs.declared.Figures.{Figures}
-use Rattle.word.specs.declared.Decoded.{Decoded}
+use Rattle.word.specs.declared.DecodeError.{DecodeError}
 use Rattle.interleave.specs.Slots.{TakesWord, PutsWord, word_in, length_word, word_below}
 use Rattle.frame.specs.Frame.{word_setting, area_size, slot_count, is_none, received_word, received_marks, corrected_word, message_of, figures_at, changes_at, beyond, area_received, figures_received, map_received}
 use Rattle.frame.specs.Frame.Limits.{FrameAllowed}
@@ -29,7 +29,7 @@ use Rattle.frame.specs.declared.receiver.Words.{Words}
 -- ---- one word
 
 -- a word's answer without its reason
-abbrev pub found_of : Decoded → Found
+abbrev pub found_of : Result Figures DecodeError → Found
 found_of d = record { accepted = eqb (number_of d) 0; figures = figures_of d }
 
 -- a frame is called plain only where no mark is set
@@ -96,7 +96,7 @@ module _ (f : Framing) (w : ℕ) (slots marks part map : List ℕ) (g : WordGive
   }
 
   module _ (room : List ℕ) (room_size : length room ≡ f.n) where
-    decides : T (below 256 word) → (d : Decoded) (left changed : List ℕ) → DecodesPart (word_setting f) word marked part room d left changed
+    decides : T (below 256 word) → (d : Result Figures DecodeError) (left changed : List ℕ) → DecodesPart (word_setting f) word marked part room d left changed
         → (o : Option (List ℕ)) → corrected_word f slots marks w ≡ o → WordFound f w slots marks (found_of d) left changed
     unfolding corrected_word message_of figures_at changes_at
     decides small d left changed p (some c) e =
@@ -121,7 +121,7 @@ module _ (f : Framing) (w : ℕ) (slots marks part map : List ℕ) (g : WordGive
   word_checked r s p q = rw (p.word, q.word) (checks (rw p.word at p.bytes))
 
   -- and what the decoder says of them
-  pub word_found : (r s room : List ℕ) → length room ≡ f.n → TakesWord f.depth f.n w slots r → TakesWord f.depth f.n w marks s → (d : Decoded) (left changed : List ℕ)
+  pub word_found : (r s room : List ℕ) → length room ≡ f.n → TakesWord f.depth f.n w slots r → TakesWord f.depth f.n w marks s → (d : Result Figures DecodeError) (left changed : List ℕ)
       → DecodesPart (word_setting f) (take f.n r) (take f.n s) part room d left changed → WordFound f w slots marks (found_of d) left changed
   word_found r s room n p q d left changed e = decides room n (rw p.word at p.bytes) d left changed (rw (p.word, q.word) at e) (corrected_word f slots marks w) refl
 

@@ -1,7 +1,7 @@
 -- Document 01, "Block interleaver and frame" and "Numbers a call can answer", and document 02, No. 6: a frame's limits, its message area, and what
 -- sending and receiving answer and leave, for every input.
 -- Assumes nothing.
-use Rattle.std.specs.Prelude.{Bool, true, false, ◌&&◌, not, List, [], ◌∷◌, ◌++◌, ℕ, ◌+◌, ◌-◌, ◌*◌, ◌/◌, ◌%◌, length, take, drop, replicate, leb, ltb, eqb, if◌then◌else◌}
+use Rattle.std.specs.Prelude.{Bool, true, false, ◌&&◌, not, Result, Ok, Err, List, [], ◌∷◌, ◌++◌, ℕ, ◌+◌, ◌-◌, ◌*◌, ◌/◌, ◌%◌, length, take, drop, replicate, leb, ltb, eqb, if◌then◌else◌}
 use Rattle.std.proofs.Math.Option.{Option, some, none, get_or}
 use Rattle.std.proofs.Math.Decide.{ℕ_discrete, dec_le}
 use Rattle.algebra.specs.Tests.{at, each, below, first_below}
@@ -16,10 +16,10 @@ use Rattle.word.specs.declared.Figures.{Figures}
 use Rattle.interleave.specs.Block.{spread}
 use Rattle.interleave.specs.Slots.{word_in}
 use Rattle.frame.specs.declared.setting.Framing.{Framing}
-use Rattle.frame.specs.declared.setting.Sent.{Sent}
-use Rattle.frame.specs.declared.setting.Sent.TheVariants as S
-use Rattle.frame.specs.declared.setting.Verdict.{Verdict}
-use Rattle.frame.specs.declared.setting.Verdict.TheVariants.{Done, BadSetting, BadLength, BadMark, BeyondReach, BadTrailer}
+use Rattle.frame.specs.declared.setting.SendError.{SendError}
+use Rattle.frame.specs.declared.setting.SendError.TheVariants as S
+use Rattle.frame.specs.declared.setting.ReceiveError.{ReceiveError}
+use Rattle.frame.specs.declared.setting.ReceiveError.TheVariants.{BadSetting, BadLength, BadMark, BeyondReach, BadTrailer}
 use Rattle.frame.specs.declared.setting.Received.{Received}
 pub mod Limits
 pub mod Trailer
@@ -88,18 +88,14 @@ pub record SendOutcome : Type 0 where
   pub number : ℕ
   pub slots : List ℕ
 
-abbrev pub sent_number : Sent → ℕ
-sent_number S.Done = 0
-sent_number S.BadSetting = 1
-sent_number S.BadLength = 2
-sent_number S.LongPayload = 6
+abbrev pub sent_number : Result (Unit {0}) SendError → ℕ
+sent_number (Ok u) = 0
+sent_number (Err S.BadSetting) = 1
+sent_number (Err S.BadLength) = 2
+sent_number (Err S.LongPayload) = 6
 
-abbrev pub send_outcome : Sent → List ℕ → SendOutcome
+abbrev pub send_outcome : Result (Unit {0}) SendError → List ℕ → SendOutcome
 send_outcome d slots = record { number = sent_number d; slots = slots }
-
--- the answer that has this number
-abbrev pub sent_as : ℕ → Sent
-sent_as k = if eqb k 0 then S.Done else if eqb k 1 then S.BadSetting else if eqb k 2 then S.BadLength else S.LongPayload
 
 -- checked in the order 1, 2, 6; 0 where all are passed
 unfoldable pub send_refusal : Framing → (payload slots : List ℕ) → ℕ
@@ -211,49 +207,55 @@ receiving f slots marks area map =
 
 -- ---- the code's answer in this paper's terms
 
-abbrev pub number_of : Verdict → ℕ
-number_of Done = 0
-number_of BadSetting = 1
-number_of BadLength = 2
-number_of BadMark = 3
-number_of (BeyondReach w) = 4
-number_of BadTrailer = 5
+-- the number of a refusal
+abbrev pub error_number : ReceiveError → ℕ
+error_number BadSetting = 1
+error_number BadLength = 2
+error_number BadMark = 3
+error_number (BeyondReach w) = 4
+error_number BadTrailer = 5
 
--- the refused word, where the answer is 4
-abbrev pub word_number : Verdict → ℕ
-word_number Done = 0
-word_number BadSetting = 0
-word_number BadLength = 0
-word_number BadMark = 0
-word_number (BeyondReach w) = w
-word_number BadTrailer = 0
+-- the refused word, where the refusal is 4
+abbrev pub error_word : ReceiveError → ℕ
+error_word BadSetting = 0
+error_word BadLength = 0
+error_word BadMark = 0
+error_word (BeyondReach w) = w
+error_word BadTrailer = 0
 
-abbrev pub is_done : Verdict → Bool
-is_done Done = true
-is_done BadSetting = false
-is_done BadLength = false
-is_done BadMark = false
-is_done (BeyondReach w) = false
-is_done BadTrailer = false
+abbrev pub number_of : {A : Type 0} → Result A ReceiveError → ℕ
+number_of (Ok r) = 0
+number_of (Err e) = error_number e
 
--- the verdict that has these numbers
-abbrev pub verdict_as : (number word : ℕ) → Verdict
-verdict_as k w =
-    if eqb k 0 then Done else if eqb k 1 then BadSetting else if eqb k 2 then BadLength else if eqb k 3 then BadMark else
-    if eqb k 4 then BeyondReach w else BadTrailer
+abbrev pub word_number : Result Received ReceiveError → ℕ
+word_number (Ok r) = 0
+word_number (Err e) = error_word e
 
--- a refusal has no numbers beside the verdict's own
-abbrev pub refused_with : (number word : ℕ) → Received
-refused_with k w = record { verdict = verdict_as k w; sequence = 0; back = 0; figures = replicate 16 no_figures }
+-- a refused frame has no numbers beside these
+abbrev pub no_numbers : Received
+no_numbers = record { sequence = 0; back = 0; figures = replicate 16 no_figures }
+
+abbrev pub received_of : Result Received ReceiveError → Received
+received_of (Ok r) = r
+received_of (Err e) = no_numbers
 
 -- the part of the area that an answer hands back
-unfoldable pub payload_of : Received → List ℕ → List ℕ
-payload_of r area = if is_done r.verdict then payload_in r.back area else []
+unfoldable pub payload_of : Result Received ReceiveError → List ℕ → List ℕ
+payload_of (Ok r) area = payload_in r.back area
+payload_of (Err e) area = []
 
 -- an answer with what it leaves in the area and in the map
-abbrev pub receive_outcome : Received → (area map : List ℕ) → ReceiveOutcome
-receive_outcome r area map =
-    record { number = number_of r.verdict; word = word_number r.verdict; sequence = r.sequence; back = r.back; figures = r.figures; area = area; payload = payload_of r area; map = map }
+abbrev pub receive_outcome : Result Received ReceiveError → (area map : List ℕ) → ReceiveOutcome
+receive_outcome r area map = record {
+  number = number_of r;
+  word = word_number r;
+  sequence = (received_of r).sequence;
+  back = (received_of r).back;
+  figures = (received_of r).figures;
+  area = area;
+  payload = payload_of r area;
+  map = map;
+}
 
 -- the whole area and the payload, as one call hands both back
 abbrev pub handed_back : ReceiveOutcome → List (List ℕ)

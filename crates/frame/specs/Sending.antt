@@ -1,6 +1,6 @@
 -- The loop that fills a frame's slots, and the answers of sending one by one.
 -- Assumes nothing.
-use Rattle.std.specs.Prelude.{◌≡◌, List, ℕ, ◌+◌, ◌*◌, ◌≤◌, ◌<◌, length}
+use Rattle.std.specs.Prelude.{◌≡◌, Ok, Err, List, ℕ, ◌+◌, ◌*◌, ◌≤◌, ◌<◌, length}
 use Rattle.std.proofs.Common.{sym, ◌∙◌, arith}
 use Rattle.std.proofs.Math.Path.{ap}
 use Rattle.algebra.specs.Lists.{tabulate, length_tabulate, Copied, part, within, part_entries}
@@ -9,13 +9,14 @@ use Rattle.word.specs.Code.{encoded}
 use Rattle.word.specs.Refusals.{MessageChecked}
 use Rattle.algebra.specs.Refusal.{new, kept}
 use Rattle.interleave.specs.Slots.{PutsWord, Putting, putting_none, putting_more, putting_all}
-use Rattle.frame.specs.Frame.{word_setting, area_size, area_byte, area_sent, word_sent, slots_sent, sent_as, send_refusal, sending}
+use Rattle.frame.specs.Frame.{word_setting, area_size, area_byte, area_sent, word_sent, slots_sent, sent_number, send_refusal, sending}
 use Rattle.frame.specs.Frame.Limits.{FrameAllowed}
 use Rattle.frame.specs.Frame.Trailer.{length_sent}
 use Rattle.frame.specs.Promises.{Sends}
-use Rattle.frame.specs.Checks.{SendChecked, send_passes, send_numbered}
+use Rattle.frame.specs.Checks.{SendChecked, send_passes}
 use Rattle.frame.specs.declared.setting.Framing.{Framing}
-use Rattle.frame.specs.declared.setting.Sent.TheVariants.{Done}
+use Rattle.frame.specs.declared.setting.SendError.{SendError}
+use Rattle.frame.specs.declared.setting.SendError.TheVariants.{BadSetting, BadLength, LongPayload}
 
 -- ---- the loop
 
@@ -78,11 +79,17 @@ module _ (f : Framing) (payload : List ℕ) (sequence : ℕ) where
 
 -- ---- the answers
 
-module _ (f : Framing) (payload : List ℕ) (sequence : ℕ) (slots : List ℕ) where
-  pub send_refused : (k : ℕ) → k ≡ send_refusal f payload slots → 0 < k → Sends f payload sequence slots (sent_as k) slots
-  unfolding sending
-  send_refused k e h = record { outcome = rw (e, send_numbered f payload slots) (kept (send_refusal f payload slots) _ _ (omega arith)) }
+-- a refusal's number is not 0
+refusal_some : (e : SendError) → 0 < sent_number (Err e)
+refusal_some BadSetting = omega arith
+refusal_some BadLength = omega arith
+refusal_some LongPayload = omega arith
 
-  pub send_done : SendChecked f payload slots → (left : List ℕ) → left ≡ slots_sent f payload sequence → Sends f payload sequence slots Done left
+module _ (f : Framing) (payload : List ℕ) (sequence : ℕ) (slots : List ℕ) where
+  pub send_refused : (e : SendError) → sent_number (Err e) ≡ send_refusal f payload slots → Sends f payload sequence slots (Err e) slots
+  unfolding sending
+  send_refused e h = record { outcome = rw h (kept (send_refusal f payload slots) _ _ (omega (arith, refusal_some e))) }
+
+  pub send_done : SendChecked f payload slots → (left : List ℕ) → left ≡ slots_sent f payload sequence → Sends f payload sequence slots (Ok tt) left
   unfolding sending
   send_done c left e = record { outcome = rw e (new _ _ _ (sym (send_passes f payload slots c))) }

@@ -3,71 +3,54 @@
 ghost use Rattle.std.specs.Prelude.{◌≡◌};
 ghost use Rattle.word.specs.Looking.{Tabled};
 ghost use Rattle.frame.specs.Frame.{word_setting};
-ghost use Rattle.frame.specs.Clean.{unclean, clean_refusal};
+ghost use Rattle.frame.specs.Clean.{clean_number, clean_refusal};
 ghost use Rattle.frame.specs.Promises.{IsClean};
 ghost use Rattle.frame.specs.Checks.{CleanChecked};
+ghost use Rattle.frame.specs.Asking.{FirstUnclean};
 
-use crate::setting::{Framing, is_allowed, words_of};
-use word::tables::{is_clean_by, no_table, prepare};
+use crate::setting::{Framing, is_allowed};
+use word::tables::{Tables, is_clean_by, prepare};
 
-// What a frame is answered. One that is not clean names its first word that is not.
-#[derive(Clone, Copy)]
-pub enum Clean {
-    Yes,
-    No(u8),
+// Why a frame is not asked about.
+#[derive(Clone, Copy, Debug, PartialEq, Eq)]
+pub enum CleanError {
     BadSetting,
     BadLength,
 }
 
-// The number by which a frame is refused, or 0. The setting comes first: within its limits the number of slots fits.
-fn clean_refusal(f: Framing, slots: &[u8]) -> u8
-    ensures { result ≡ clean_refusal f slots.now }
+// Whether a frame can be asked about. The setting comes first: within its limits the number of slots fits.
+fn check_clean(f: Framing, slots: &[u8]) -> Result<(), CleanError>
+    ensures { clean_number result ≡ clean_refusal f slots.now }
 {
     if !is_allowed(f) {
-        return 1;
+        return Err(CleanError::BadSetting);
     }
-    if slots.len() != f.n * f.depth {
-        return 2;
+    if slots.len() != f.slots() {
+        return Err(CleanError::BadLength);
     }
-    0
+    Ok(())
 }
 
-// The first word that is no codeword; the depth where all are. No word behind it is looked at.
-fn first_unclean(f: Framing, low: &[u64; 128], high: &[u64; 128], slots: &[u8]) -> usize
-    requires { CleanChecked f slots.now × Tabled (word_setting f) low.now high.now }
-    ensures { result ≡ unclean f slots.now }
+// The first word that is no codeword, or none where all are. No word behind it is looked at.
+fn first_unclean(f: Framing, tables: &Tables, slots: &[u8]) -> Option<u8>
+    requires { CleanChecked f slots.now × Tabled (word_setting f) tables.now }
+    ensures { FirstUnclean f slots.now result }
 {
-    let s = words_of(f);
-    let depth = f.depth;
-    let mut first = depth;
-    let mut w = 0;
-    while w < first {
-        if !is_clean_by(s, low, high, slots, depth, w) {
-            first = w;
+    for w in 0..f.depth {
+        if !is_clean_by(f.words(), tables, slots, f.depth, w) {
+            return Some(w as u8);
         }
-        w += 1;
     }
-    first
+    None
 }
 
-// Whether every word of a received frame is a codeword. Refused 1 for the setting, also where the area has no room for a trailer, and 2 for
-// the number of slots.
-pub fn is_clean(f: Framing, slots: &[u8]) -> Clean
+// The first word of a received frame that is no codeword, or none where every word is one. Refused 1 for the setting, also where the area has no
+// room for a trailer, and 2 for the number of slots.
+pub fn is_clean(f: Framing, slots: &[u8]) -> Result<Option<u8>, CleanError>
     ensures { IsClean f slots.now result }
 {
-    let number = clean_refusal(f, slots);
-    if number == 1 {
-        return Clean::BadSetting;
-    }
-    if number == 2 {
-        return Clean::BadLength;
-    }
-    let mut low = no_table();
-    let mut high = no_table();
-    prepare(words_of(f), &mut low, &mut high);
-    let first = first_unclean(f, &low, &high, slots);
-    if first < f.depth {
-        return Clean::No(first as u8);
-    }
-    Clean::Yes
+    check_clean(f, slots)?;
+    let mut tables = Tables::none();
+    prepare(f.words(), &mut tables);
+    Ok(first_unclean(f, &tables, slots))
 }

@@ -10,8 +10,8 @@ mod sender;
 pub mod setting;
 mod trailer;
 
-pub use clean::{Clean, is_clean};
+pub use clean::{CleanError, is_clean};
 pub use receiver::receive;
 pub use sender::send;
-pub use setting::{Framing, Received, Sent, Verdict, is_allowed};
+pub use setting::{Framing, ReceiveError, Received, SendError, is_allowed};
 pub use trailer::payload;

@@ -1,83 +1,60 @@
-// Document 01, section Numbers a call can answer: the paper's numbers of what sending and receiving answer, and the answers of its numbers.
+// Document 01, section Numbers a call can answer: the paper's numbers of what sending and receiving answer.
 ghost use Rattle.std.specs.Prelude.{◌≡◌};
-ghost use Rattle.frame.specs.Frame.{sent_number, sent_as, number_of, word_number, verdict_as};
+ghost use Rattle.frame.specs.Frame.{sent_number, number_of, word_number, no_numbers, received_of};
 
-use crate::setting::{Sent, Verdict};
+use crate::setting::{ReceiveError, Received, SendError};
+use word::numbers::no_figures;
 
 // The number of what sending answers.
-pub fn sent_number(d: Sent) -> u8
-    ensures { result ≡ sent_number d }
+pub fn sent_number(answer: Result<(), SendError>) -> u8
+    ensures { result ≡ sent_number answer }
 {
-    match d {
-        Sent::Done => 0,
-        Sent::BadSetting => 1,
-        Sent::BadLength => 2,
-        Sent::LongPayload => 6,
+    match answer {
+        Ok(()) => 0,
+        Err(SendError::BadSetting) => 1,
+        Err(SendError::BadLength) => 2,
+        Err(SendError::LongPayload) => 6,
     }
 }
 
-// The number of a verdict.
-pub fn number_of(verdict: Verdict) -> u8
-    ensures { result ≡ number_of verdict }
+// The number of what receiving answers.
+pub fn number_of(answer: Result<Received, ReceiveError>) -> u8
+    ensures { result ≡ number_of answer }
 {
-    match verdict {
-        Verdict::Done => 0,
-        Verdict::BadSetting => 1,
-        Verdict::BadLength => 2,
-        Verdict::BadMark => 3,
-        Verdict::BeyondReach(_) => 4,
-        Verdict::BadTrailer => 5,
+    match answer {
+        Ok(_) => 0,
+        Err(ReceiveError::BadSetting) => 1,
+        Err(ReceiveError::BadLength) => 2,
+        Err(ReceiveError::BadMark) => 3,
+        Err(ReceiveError::BeyondReach(_)) => 4,
+        Err(ReceiveError::BadTrailer) => 5,
     }
 }
 
-// The number of the refused word, where a verdict names one; else 0.
-pub fn word_number(verdict: Verdict) -> u8
-    ensures { result ≡ word_number verdict }
+// The number of the refused word, where the answer names one; else 0.
+pub fn word_number(answer: Result<Received, ReceiveError>) -> u8
+    ensures { result ≡ word_number answer }
 {
-    match verdict {
-        Verdict::Done => 0,
-        Verdict::BadSetting => 0,
-        Verdict::BadLength => 0,
-        Verdict::BadMark => 0,
-        Verdict::BeyondReach(w) => w,
-        Verdict::BadTrailer => 0,
+    match answer {
+        Err(ReceiveError::BeyondReach(w)) => w,
+        _ => 0,
     }
 }
 
-// The answer of sending that has this number.
-pub fn sent_as(number: u8) -> Sent
-    ensures { result ≡ sent_as number }
+// The numbers of a frame that has none.
+pub fn no_numbers() -> Received
+    ensures { result ≡ no_numbers }
 {
-    if number == 0 {
-        return Sent::Done;
+    Received {
+        sequence: 0,
+        back: 0,
+        figures: [no_figures(); 16],
     }
-    if number == 1 {
-        return Sent::BadSetting;
-    }
-    if number == 2 {
-        return Sent::BadLength;
-    }
-    Sent::LongPayload
 }
 
-// The verdict that has this number, and names this word where it is 4.
-pub fn verdict_as(number: u8, word: u8) -> Verdict
-    ensures { result ≡ verdict_as number word }
+// The numbers of what receiving answers; a refused frame has none.
+pub fn received_of(answer: Result<Received, ReceiveError>) -> Received
+    ensures { result ≡ received_of answer }
 {
-    if number == 0 {
-        return Verdict::Done;
-    }
-    if number == 1 {
-        return Verdict::BadSetting;
-    }
-    if number == 2 {
-        return Verdict::BadLength;
-    }
-    if number == 3 {
-        return Verdict::BadMark;
-    }
-    if number == 4 {
-        return Verdict::BeyondReach(word);
-    }
-    Verdict::BadTrailer
+    answer.unwrap_or(no_numbers())
 }

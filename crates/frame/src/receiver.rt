@@ -3,20 +3,19 @@
 ghost use Rattle.std.specs.Prelude.{◌≡◌, ◌≤◌, length, replicate};
 ghost use Rattle.word.specs.Looking.{Tabled};
 ghost use Rattle.interleave.specs.Slots.{HasWord, TakesWord, PutsWord};
-ghost use Rattle.frame.specs.Frame.{word_setting, receive_outcome, refused_with, settled, decoded_frame, receive_refusal};
+ghost use Rattle.frame.specs.Frame.{word_setting, number_of, receive_outcome, settled, decoded_frame, receive_refusal};
 ghost use Rattle.frame.specs.Promises.{Receives};
 ghost use Rattle.frame.specs.Checks.{ReceiveChecked};
 ghost use Rattle.frame.specs.Mapping.{Blank, Spare};
 ghost use Rattle.frame.specs.Decoding.{found_of, Plain, WordGiven, WordPut, Collected};
 
-use crate::numbers::verdict_as;
-use crate::setting::{Framing, Received, Verdict, is_allowed, words_of};
+use crate::setting::{Framing, ReceiveError, Received, is_allowed};
 use crate::trailer::{is_good, two_at};
 use buffers::{all_below, fill, work_space};
 use interleave::slots::{put_word, take_word};
-use word::numbers::{figures_of, no_figures, number_of};
-use word::tables::{decode_part_by, no_table, prepare};
-use word::{Decoded, Figures};
+use word::numbers::{figures_of, no_figures};
+use word::tables::{Tables, decode_part_by, prepare};
+use word::{DecodeError, Figures};
 
 // What one word was found to have; no figures where it is refused.
 #[derive(Drop)]
@@ -33,12 +32,12 @@ pub struct Words {
 }
 
 // A word's answer without its reason: a frame tells only which word failed.
-fn without_reason(d: Decoded) -> Found
-    ensures { result ≡ found_of d }
+fn without_reason(answer: Result<Figures, DecodeError>) -> Found
+    ensures { result ≡ found_of answer }
 {
     Found {
-        accepted: number_of(d) == 0,
-        figures: figures_of(d),
+        accepted: answer.is_ok(),
+        figures: figures_of(answer),
     }
 }
 
@@ -74,8 +73,7 @@ fn put_changes(f: Framing, w: usize, bits: u16, changed: &[u8], map: &mut [u8])
 // Decodes word w into its part of the area, by the tables of all words, and maps where it was changed.
 fn receive_word(
     f: Framing,
-    low: &[u64; 128],
-    high: &[u64; 128],
+    tables: &Tables,
     plain: bool,
     w: usize,
     slots: &[u8],
@@ -83,23 +81,22 @@ fn receive_word(
     part: &mut [u8],
     map: &mut [u8],
 ) -> Found
-    requires { WordGiven f w slots.now marks.now part.old map.old × Tabled (word_setting f) low.now high.now × Plain plain marks.now }
+    requires { WordGiven f w slots.now marks.now part.old map.old × Tabled (word_setting f) tables.now × Plain plain marks.now }
     ensures { WordPut f w slots.now marks.now map.old result part.new map.new }
 {
     let word = take_word(f.depth, f.n, w, slots);
     let marked = marks_of(f, plain, w, marks);
     let mut room = work_space();
     let changed = &mut room[..f.n];
-    let d = decode_part_by(
-        words_of(f),
-        low,
-        high,
+    let answer = decode_part_by(
+        f.words(),
+        tables,
         &word[..f.n],
         &marked[..f.n],
         part,
         changed,
     );
-    let found = without_reason(d);
+    let found = without_reason(answer);
     put_changes(f, w, found.figures.bits, changed, map);
     found
 }
@@ -107,15 +104,14 @@ fn receive_word(
 // Decodes each word into its part of the area and its slots of the map, which is cleared before, up to the first that is refused.
 fn receive_words(
     f: Framing,
-    low: &[u64; 128],
-    high: &[u64; 128],
+    tables: &Tables,
     plain: bool,
     slots: &[u8],
     marks: &[u8],
     area: &mut [u8],
     map: &mut [u8],
 ) -> Words
-    requires { ReceiveChecked f slots.now marks.now area.old map.old × Tabled (word_setting f) low.now high.now × Plain plain marks.now }
+    requires { ReceiveChecked f slots.now marks.now area.old map.old × Tabled (word_setting f) tables.now × Plain plain marks.now }
     ensures { Collected f slots.now marks.now result area.new map.new }
 {
     fill(map, 0);
@@ -124,7 +120,7 @@ fn receive_words(
     for w in 0..f.depth {
         let a = w * k;
         let part = &mut area[a..a + k];
-        let found = receive_word(f, low, high, plain, w, slots, marks, part, map);
+        let found = receive_word(f, tables, plain, w, slots, marks, part, map);
         if !found.accepted {
             return Words {
                 accepted: w,
@@ -148,35 +144,25 @@ fn clear(whole: &mut [u8], changed: &mut [u8])
     fill(changed, 0);
 }
 
-// The answer of a frame that is refused with this number, and this word where it is 4.
-fn refused(number: u8, word: u8) -> Received
-    ensures { result ≡ refused_with number word }
-{
-    let figures = [no_figures(); 16];
-    Received {
-        verdict: verdict_as(number, word),
-        sequence: 0,
-        back: 0,
-        figures,
-    }
-}
-
 // The answer of a frame whose words are all accepted: what its trailer says.
-fn settle(whole: &mut [u8], map: &mut [u8], figures: [Figures; 16]) -> Received
+fn settle(
+    whole: &mut [u8],
+    map: &mut [u8],
+    figures: [Figures; 16],
+) -> Result<Received, ReceiveError>
     requires { 4 ≤ length whole.old }
     ensures { receive_outcome result whole.new map.new ≡ settled (length whole.old) figures whole.old map.old }
 {
     if !is_good(whole) {
         clear(whole, map);
-        return refused(5, 0);
+        return Err(ReceiveError::BadTrailer);
     }
     let end = whole.len() - 4;
-    Received {
-        verdict: Verdict::Done,
+    Ok(Received {
         sequence: two_at(whole, end + 2),
         back: two_at(whole, end),
         figures,
-    }
+    })
 }
 
 // Decodes a frame that has passed the checks. Its words have one setting, so they have their tables in common.
@@ -186,57 +172,57 @@ fn receive_checked(
     marks: &[u8],
     area: &mut [u8],
     map: &mut [u8],
-) -> Received
+) -> Result<Received, ReceiveError>
     requires { ReceiveChecked f slots.now marks.now area.old map.old }
     ensures { receive_outcome result area.new map.new ≡ decoded_frame f slots.now marks.now }
 {
-    let mut low = no_table();
-    let mut high = no_table();
-    prepare(words_of(f), &mut low, &mut high);
+    let mut tables = Tables::none();
+    prepare(f.words(), &mut tables);
     let plain = all_below(marks, 1);
-    let words = receive_words(f, &low, &high, plain, slots, marks, area, map);
+    let words = receive_words(f, &tables, plain, slots, marks, area, map);
     if words.accepted < f.depth {
         clear(area, map);
-        return refused(4, words.accepted as u8);
+        return Err(ReceiveError::BeyondReach(words.accepted as u8));
     }
     let figures = words.figures;
     settle(area, map, figures)
 }
 
-// The number by which a frame is refused before it is decoded, or 0. The setting comes first: within its limits the lengths fit.
-fn receive_refusal(f: Framing, slots: &[u8], marks: &[u8], area: &[u8], map: &[u8]) -> u8
-    ensures { result ≡ receive_refusal f slots.now marks.now area.now map.now }
+// Whether a frame can be decoded into this area and this map. The setting comes first: within its limits the lengths fit.
+fn check_receive(
+    f: Framing,
+    slots: &[u8],
+    marks: &[u8],
+    area: &[u8],
+    map: &[u8],
+) -> Result<(), ReceiveError>
+    ensures { number_of result ≡ receive_refusal f slots.now marks.now area.now map.now }
 {
     if !is_allowed(f) {
-        return 1;
+        return Err(ReceiveError::BadSetting);
     }
-    if slots.len() != f.n * f.depth {
-        return 2;
-    }
-    if marks.len() != f.n * f.depth {
-        return 2;
-    }
-    if area.len() != f.depth * (f.n - f.r) {
-        return 2;
-    }
-    if map.len() != f.n * f.depth {
-        return 2;
+    let size = f.slots();
+    if slots.len() != size || marks.len() != size || area.len() != f.area() || map.len() != size {
+        return Err(ReceiveError::BadLength);
     }
     if !all_below(marks, 2) {
-        return 3;
+        return Err(ReceiveError::BadMark);
     }
-    0
+    Ok(())
 }
 
 // Decodes a received frame into the lent area of A bytes; its slots and marks are only read. The map, which has a mark for each slot, gets 1
 // where a slot was changed, and 0 elsewhere. A frame that is beyond reach or has a bad trailer leaves zeros in the area and in the map, and any
 // other refusal leaves both as they were.
-pub fn receive(f: Framing, slots: &[u8], marks: &[u8], area: &mut [u8], map: &mut [u8]) -> Received
+pub fn receive(
+    f: Framing,
+    slots: &[u8],
+    marks: &[u8],
+    area: &mut [u8],
+    map: &mut [u8],
+) -> Result<Received, ReceiveError>
     ensures { Receives f slots.now marks.now area.old map.old result area.new map.new }
 {
-    let number = receive_refusal(f, slots, marks, area, map);
-    if number != 0 {
-        return refused(number, 0);
-    }
+    check_receive(f, slots, marks, area, map)?;
     receive_checked(f, slots, marks, area, map)
 }

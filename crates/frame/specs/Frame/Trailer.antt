@@ -1,15 +1,15 @@
 -- The area to be sent entry by entry, the test of a received one, and the payload as a part of it.
 -- Assumes nothing.
-use Rattle.std.specs.Prelude.{◌≡◌, refl, Bool, true, false, List, [], ◌++◌, ℕ, ◌+◌, ◌-◌, ◌≤◌, ◌<◌, take, drop, replicate, eqb}
+use Rattle.std.specs.Prelude.{◌≡◌, refl, Bool, true, false, Ok, List, [], ◌++◌, ℕ, ◌+◌, ◌-◌, ◌≤◌, ◌<◌, take, drop, replicate, eqb}
 use Rattle.std.proofs.Math.Path.{sym}
-use Rattle.std.proofs.Common.{ap, ◌∙◌, eqb→eq}
+use Rattle.std.proofs.Common.{ap, ◌∙◌, eqb→eq, get_or-take, length-take-le}
 use native.Mathlib.Omega.{arith}
 use borrow.Author.Tests.{le-leb, lt-leb, eq-eqb}
 use Rattle.std.proofs.Math.ListN.{length, length-append, get_or-append}
 use Rattle.std.proofs.lemmas.List.{length-replicate, get_or-replicate}
 use Rattle.std.proofs.Math.Seq.{get_or-append-add}
-use Rattle.algebra.specs.Tests.{at, each, each_at, each_all, passed}
-use Rattle.frame.specs.Frame.{trailer, two_at, area_sent, zeros_before, trailer_good, payload_in, payload_of, is_done}
+use Rattle.algebra.specs.Tests.{at, each, each_at, each_all, below, below_at, below_all, passed}
+use Rattle.frame.specs.Frame.{trailer, two_at, area_sent, zeros_before, trailer_good, payload_in, payload_of}
 use Rattle.frame.specs.declared.setting.Received.{Received}
 
 -- ---- the area to be sent
@@ -64,6 +64,20 @@ pub zeros_all : (end : ℕ) (area : List ℕ) → ((i : ℕ) → i < end → at 
 unfolding zeros_before
 zeros_all end area h = sym (passed _ (each_all end (λ k. eqb (at area k) 0) λ i l. rw (eq-eqb (at area i) 0 (h i l)) tt))
 
+-- as the code tests it: bytes below 1
+pub zeros_below : (end : ℕ) (area : List ℕ) → end ≤ length area → below 1 (take end area) ≡ zeros_before end area
+unfolding zeros_before
+zeros_below end area l = same (below 1 (take end area)) (zeros_before end area) refl refl
+  where
+    same : (a b : Bool) → below 1 (take end area) ≡ a → zeros_before end area ≡ b → a ≡ b
+    same true b e h = zeros_all end area (λ i k. let z : at (take end area) i < 1 = below_at 1 (take end area) (rw e tt) i (omega arith) in sym (get_or-take end area i 0 k) ∙ omega arith) ∙ h
+    same false false e h = refl
+    same false true e h = sym e ∙ passed _ (below_all 1 (take end area) λ i k.
+        let inside : i < end = omega (arith, length-take-le end area l) in
+        let zero : at area i ≡ 0 = eqb→eq (at area i) 0 (each_at end (λ j. eqb (at area j) 0) (rw h tt) i inside) in
+        let here : at (take end area) i ≡ at area i = get_or-take end area i 0 inside in
+        omega arith)
+
 -- ---- the trailer's test
 
 module _ (A : ℕ) (area : List ℕ) where
@@ -78,17 +92,12 @@ module _ (A : ℕ) (area : List ℕ) where
 -- ---- the payload
 
 module _ (r : Received) (area : List ℕ) where
-  pub payload_refused : is_done r.verdict ≡ false → [] ≡ payload_of r area
-  unfolding payload_of
-  payload_refused e = rw e
+  pub payload_short : length area < r.back + 4 → [] ≡ payload_of (Ok r) area
+  unfolding payload_of payload_in
+  payload_short h = rw (lt-leb (r.back + 4) (length area) h)
 
-  module _ (e : is_done r.verdict ≡ true) where
-    pub payload_short : length area < r.back + 4 → [] ≡ payload_of r area
-    unfolding payload_of payload_in
-    payload_short h = rw (e, lt-leb (r.back + 4) (length area) h)
-
-    pub payload_there : r.back + 4 ≤ length area → take (length area - 4 - (length area - 4 - r.back)) (drop (length area - 4 - r.back) area) ≡ payload_of r area
-    unfolding payload_of payload_in
-    payload_there h =
-        let n : length area - 4 - (length area - 4 - r.back) ≡ r.back = omega arith in
-        rw (e, le-leb (r.back + 4) (length area) h, n)
+  pub payload_there : r.back + 4 ≤ length area → take (length area - 4 - (length area - 4 - r.back)) (drop (length area - 4 - r.back) area) ≡ payload_of (Ok r) area
+  unfolding payload_of payload_in
+  payload_there h =
+      let n : length area - 4 - (length area - 4 - r.back) ≡ r.back = omega arith in
+      rw (le-leb (r.back + 4) (length area) h, n)

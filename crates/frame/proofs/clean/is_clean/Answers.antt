@@ -1,33 +1,22 @@
 -- `clean::is_clean` meets its contract: a refusal is told, and else the first word that is no codeword.
-use mathlib.Core.Path.{refl, sym, ◌∙◌}
-use native.Mathlib.Omega.{arith}
+use mathlib.Core.Path.{sym}
+use Rattle.std.proofs.lemmas.Result.{err_from_is_err_and}
 use Rattle.frame.specs.Checks.{clean_checked}
-use Rattle.frame.specs.Asking.{clean_refused, clean_no, clean_yes}
+use Rattle.frame.specs.Asking.{clean_refused, clean_told}
 use Rattle.frame.proofs.clean.is_clean.Goals as goal
 
-pub returns-then-number-eq1 : goal.returns-then-number-eq1
-returns-then-number-eq1 c = clean_refused _ _ _ (sym c.if-number-eq1.true ∙ c.clean_refusal-number.ensures) (omega arith) refl refl
-
-pub returns-then-number-eq2 : goal.returns-then-number-eq2
-returns-then-number-eq2 c = clean_refused _ _ _ (sym c.if-number-eq2.true ∙ c.clean_refusal-number.ensures) (omega arith) refl refl
+pub returns-in_err-check_clean : goal.returns-in_err-check_clean
+returns-in_err-check_clean c =
+    let p = err_from_is_err_and c.from_residual.result c.from_residual.ensures.1 in
+    rw (p.1, p.2) (clean_refused _ _ _ c.in_err-check_clean.ensures)
 
 pub prepare-requires : goal.prepare-requires
 prepare-requires c =
-    let words = (clean_checked _ _ _ c.clean_refusal-number.ensures c.if-number-eq1.false c.if-number-eq2.false).limits.words in
-    rw c.words_of.ensures (words.start, words.high, c.no_table-low.ensures, c.no_table-high.ensures)
+    let words = (clean_checked _ _ (sym c.in_ok-check_clean.ensures)).limits.words in
+    rw c.words.ensures (words.start, words.high)
 
-pub first_unclean-first-requires : goal.first_unclean-first-requires
-first_unclean-first-requires c =
-    (clean_checked _ _ _ c.clean_refusal-number.ensures c.if-number-eq1.false c.if-number-eq2.false, rw c.words_of.ensures at c.prepare.ensures)
-
-pub overflow_cast-result : goal.overflow_cast-result
-overflow_cast-result c =
-    omega (arith, (clean_checked _ _ _ c.clean_refusal-number.ensures c.if-number-eq1.false c.if-number-eq2.false).limits.few)
-
-pub returns-then-first-f : goal.returns-then-first-f
-returns-then-first-f c =
-    clean_no _ _ (clean_checked _ _ _ c.clean_refusal-number.ensures c.if-number-eq1.false c.if-number-eq2.false) _ c.first_unclean-first.ensures c.if-first-f.true
+pub first_unclean-requires : goal.first_unclean-requires
+first_unclean-requires c = (clean_checked _ _ (sym c.in_ok-check_clean.ensures), rw c.words.ensures at c.prepare.ensures)
 
 pub returns : goal.returns
-returns c =
-    clean_yes _ _ (clean_checked _ _ _ c.clean_refusal-number.ensures c.if-number-eq1.false c.if-number-eq2.false) _ c.first_unclean-first.ensures c.if-first-f.false
+returns c = clean_told _ _ (clean_checked _ _ (sym c.in_ok-check_clean.ensures)) _ c.first_unclean.ensures

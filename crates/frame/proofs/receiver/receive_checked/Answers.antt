@@ -9,18 +9,18 @@ use Rattle.frame.proofs.receiver.receive_checked.Goals as goal
 pub prepare-requires : goal.prepare-requires
 prepare-requires c =
     let words = c.requires.limits.words in
-    rw c.words_of.ensures (words.start, words.high, c.no_table-low.ensures, c.no_table-high.ensures)
+    rw c.words.ensures (words.start, words.high)
 
 pub receive_words-words-requires : goal.receive_words-words-requires
-receive_words-words-requires c = (c.requires, rw c.words_of.ensures at c.prepare.ensures, plain_if _ _ c.all_below-plain.ensures)
+receive_words-words-requires c = (c.requires, rw c.words.ensures at c.prepare.ensures, plain_if _ _ c.all_below-plain.ensures)
 
-pub overflow_cast-words : goal.overflow_cast-words
-overflow_cast-words c = omega (arith, c.requires.limits.few)
+pub overflow_cast-result : goal.overflow_cast-result
+overflow_cast-result c = omega (arith, c.requires.limits.few)
 
 pub returns-then-words-f : goal.returns-then-words-f
 returns-then-words-f c =
     let cleared = c.clear.ensures in
-    rw (c.refused.ensures, cleared.0, cleared.1)
+    rw (cleared.0, cleared.1)
     (decoded_beyond _ _ _ _ c.receive_words-words.ensures.first c.if-words-f.true _ _ (c.receive_words-words.auto.area ∙ c.requires.area_size_lem) (c.receive_words-words.auto.map ∙ c.requires.map_size))
 
 pub settle-requires : goal.settle-requires

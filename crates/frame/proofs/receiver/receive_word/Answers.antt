@@ -42,16 +42,16 @@ slice_bounds-decode_part_by-end-2 c =
     let room : c.args.f.n ≤ length c.marks_of-marked.result = omega (arith, short_word _ c.requires.0.limits, c.marks_of-marked.ensures.size) in
     sym (length-take-le _ _ room)
 
-pub decode_part_by-d-requires : goal.decode_part_by-d-requires
-decode_part_by-d-requires c =
+pub decode_part_by-answer-requires : goal.decode_part_by-answer-requires
+decode_part_by-answer-requires c =
     let room : c.args.f.n ≤ length c.work_space-room.result = omega (arith, short_word _ c.requires.0.limits, c.work_space-room.ensures) in
-    rw c.words_of.ensures (word_checked _ _ _ _ _ _ c.requires.0 _ _ c.take_word-word.ensures c.marks_of-marked.ensures, c.requires.1, c.requires.0.part_size, length-take-le _ _ room)
+    rw c.words.ensures (word_checked _ _ _ _ _ _ c.requires.0 _ _ c.take_word-word.ensures c.marks_of-marked.ensures, c.requires.1, c.requires.0.part_size, length-take-le _ _ room)
 
 pub put_changes-requires : goal.put_changes-requires
 put_changes-requires c =
     let given = c.requires.0 in
     let room : c.args.f.n ≤ length c.work_space-room.result = omega (arith, short_word _ given.limits, c.work_space-room.ensures) in
-    let told = rw c.words_of.ensures at c.decode_part_by-d.ensures in
+    let told = rw c.words.ensures at c.decode_part_by-answer.ensures in
     let found = word_found _ _ _ _ _ _ given _ _ _ (length-take-le _ _ room) c.take_word-word.ensures c.marks_of-marked.ensures _ _ _ told in
     (record { turn = given.turn; few = given.limits.few; short = short_word _ given.limits; size = given.map_size }, given.blank, rw c.without_reason-found.ensures found.spare)
 
@@ -59,6 +59,6 @@ pub returns : goal.returns
 returns c =
     let given = c.requires.0 in
     let room : c.args.f.n ≤ length c.work_space-room.result = omega (arith, short_word _ given.limits, c.work_space-room.ensures) in
-    let told = rw c.words_of.ensures at c.decode_part_by-d.ensures in
+    let told = rw c.words.ensures at c.decode_part_by-answer.ensures in
     let found = word_found _ _ _ _ _ _ given _ _ _ (length-take-le _ _ room) c.take_word-word.ensures c.marks_of-marked.ensures _ _ _ told in
-    record { changed = c.decode_part_by-d.new.map; word = rw c.without_reason-found.ensures found; put = c.put_changes.ensures }
+    record { changed = c.decode_part_by-answer.new.map; word = rw c.without_reason-found.ensures found; put = c.put_changes.ensures }

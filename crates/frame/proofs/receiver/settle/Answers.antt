@@ -9,7 +9,7 @@ returns-then-not-is_good c =
     let cleared = c.clear.ensures in
     let args = c.args in
     let told = sym c.is_good.ensures ∙ not-true _ c.if-not-is_good.true-raw in
-    rw (c.refused.ensures, cleared.0, cleared.1) (settled_bad args.figures args.whole.now args.map.now told)
+    rw (cleared.0, cleared.1) (settled_bad args.figures args.whole.now args.map.now told)
 
 pub returns : goal.returns
 returns c =
