@@ -3,8 +3,10 @@ ghost use Rattle.std.specs.Prelude.{◌≡◌};
 ghost use Rattle.frame.specs.Frame.{allowed_frame};
 ghost use Rattle.radio.specs.Frames.{framing_of, start_of, frame_seen, clean_seen, FrameSend, FrameReceive, FrameIsClean};
 
-use frame::numbers::{number_of, sent_number, word_number};
-use link::{Clean, Framing, Received, is_allowed, is_clean, payload, receive, send};
+use frame::numbers::{number_of, received_of, sent_number, word_number};
+use frame::{
+    CleanError, Framing, ReceiveError, Received, is_allowed, is_clean, payload, receive, send,
+};
 use word::Figures;
 
 // A frame as C sets it.
@@ -64,16 +66,17 @@ pub fn start_of(number: u8, size: usize, length: usize) -> usize
 }
 
 // A frame's answer as C sees it, with the area that it left.
-pub fn frame_answer(t: Received, area: &[u8]) -> FrameAnswer
+pub fn frame_answer(t: Result<Received, ReceiveError>, area: &[u8]) -> FrameAnswer
     ensures { result ≡ frame_seen area.now t }
 {
-    let answer = number_of(t.verdict);
+    let answer = number_of(t);
     let length = payload(area, t).len();
-    let figures = t.figures;
+    let numbers = received_of(t);
+    let figures = numbers.figures;
     FrameAnswer {
         answer,
-        word: word_number(t.verdict),
-        sequence: t.sequence,
+        word: word_number(t),
+        sequence: numbers.sequence,
         start: start_of(answer, area.len(), length),
         length,
         figures,
@@ -81,15 +84,15 @@ pub fn frame_answer(t: Received, area: &[u8]) -> FrameAnswer
 }
 
 // The answer of a frame that is only asked about, as C sees it.
-impl From<Clean> for FrameClean {
+impl From<Result<Option<u8>, CleanError>> for FrameClean {
     ghost from_gives = { λ d r. r ≡ clean_seen d };
 
-    fn from(d: Clean) -> FrameClean {
+    fn from(d: Result<Option<u8>, CleanError>) -> FrameClean {
         let (answer, clean, word) = match d {
-            Clean::Yes => (0, 1, 0),
-            Clean::No(word) => (0, 0, word),
-            Clean::BadSetting => (1, 0, 0),
-            Clean::BadLength => (2, 0, 0),
+            Ok(None) => (0, 1, 0),
+            Ok(Some(word)) => (0, 0, word),
+            Err(CleanError::BadSetting) => (1, 0, 0),
+            Err(CleanError::BadLength) => (2, 0, 0),
         };
         FrameClean {
             answer,
