@@ -54,16 +54,6 @@ FrameIsClean s slots r = Shows clean_seen (IsClean (framing_of s) slots) r
 
 -- ---- laws
 
--- the cases of the start, one for each way out of the code
-module _ (number size many : ℕ) where
-  pub start_refused : number ≢ 0 → 0 ≡ start_of number size many
-  unfolding start_of
-  start_refused n = rw (ne_eqb number 0 n)
-
-  pub start_accepted : number ≡ 0 → (s : ℕ) → s ≡ size - 4 - many → s ≡ start_of number size many
-  unfolding start_of
-  start_accepted z s e = rw z e
-
 -- what an answer hands back is that part of the area: `length` bytes from `start` on
 module _ (back : ℕ) (area : List ℕ) where
   abbrev handed : List ℕ
@@ -81,8 +71,8 @@ module _ (back : ℕ) (area : List ℕ) where
 pub payload_place : (t : Result Received ReceiveError) (area : List ℕ) →
     let r = frame_seen area t in
     payload_of t area ≡ take r.length (drop r.start area)
-unfolding payload_of
-payload_place (Ok r) area = place_in r.back area ∙ ap (λ (s : ℕ). take (length (payload_in r.back area)) (drop s area)) (start_accepted 0 (length area) _ refl _ refl)
+unfolding payload_of start_of
+payload_place (Ok r) area = place_in r.back area
 payload_place (Err e) area = refl
 
 -- ---- no second answer: of each call's answer, and of what it leaves in the lent slots, or in the area and the map

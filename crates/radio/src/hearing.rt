@@ -25,9 +25,9 @@ pub extern "C" fn yaxo_hear(
 ) -> HeardAnswer
     ensures { Hear before framing slots.now marks.now area.old map.old result area.new map.new }
 {
-    let t = hear(before.into(), framing.into(), slots, marks, area, map);
-    let next = record_seen(before, t.next);
-    let answer = frame_answer(t.answer, area);
+    let heard = hear(before.into(), framing.into(), slots, marks, area, map);
+    let next = record_seen(before, heard.next);
+    let answer = frame_answer(heard.answer, area);
     HeardAnswer { next, answer }
 }
 

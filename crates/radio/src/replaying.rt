@@ -4,7 +4,8 @@ ghost use Rattle.radio.specs.Replaying.{replayed_seen, both_replayed_seen, Repla
 
 use crate::frames::FrameSetting;
 use crate::records::{LentRecord, record_seen};
-use link::{Replayed, replay};
+use link::numbers::{frames_of, replay_number};
+use link::{ReplayError, replay};
 
 // What a replay answers: the whole call's number, and how many frames were heard.
 #[repr(C)]
@@ -23,13 +24,13 @@ pub struct ReplayAnswer {
 }
 
 // The answer as C sees it.
-impl From<Replayed> for ReplayedAnswer {
+impl From<Result<usize, ReplayError>> for ReplayedAnswer {
     ghost from_gives = { λ t r. r ≡ replayed_seen t };
 
-    fn from(t: Replayed) -> ReplayedAnswer {
+    fn from(t: Result<usize, ReplayError>) -> ReplayedAnswer {
         ReplayedAnswer {
-            answer: t.number,
-            frames: t.frames,
+            answer: replay_number(t),
+            frames: frames_of(t),
         }
     }
 }
