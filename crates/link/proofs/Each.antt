@@ -1,6 +1,6 @@
 -- A replay that meets its promise has heard each frame as `hear` hears it (specs/Replay/Each.antt).
 -- Assumes nothing.
-use Rattle.std.specs.Prelude.{◌≡◌, List, [], ℕ, ◌+◌, ◌*◌, ◌<◌, length}
+use Rattle.std.specs.Prelude.{◌≡◌, Result, List, [], ℕ, ◌+◌, ◌*◌, ◌<◌, length}
 use Rattle.std.proofs.Math.Path.{sym, ap}
 use Rattle.std.proofs.Common.{◌∙◌, arith}
 use Rattle.std.proofs.Math.Numerals.{add-one}
@@ -13,11 +13,11 @@ use Rattle.record.specs.declared.Record.{Record}
 use Rattle.link.specs.Receiver.{hearing}
 use Rattle.link.specs.Replay.{frames_in, record_after, heard, result_of, ReplayOutcome, replay_outcome, heard_in_turn, replaying}
 use Rattle.link.specs.Replay.Checks.{ReplayChecked, replay_passes, lies}
-use Rattle.link.specs.Replay.Result.{result_size}
+use Rattle.link.specs.Replay.Places.{result_size}
 use Rattle.link.specs.Replay.Turns.{part_size}
 use Rattle.link.specs.Replay.Whole.{Whole, receiving_whole}
 use Rattle.link.specs.Promises.{Replays}
-use Rattle.link.specs.declared.replaying.Replayed.{Replayed}
+use Rattle.link.specs.declared.replaying.ReplayError.{ReplayError}
 use Rattle.link.specs.Replay.Each.{EachHeard}
 
 -- part i of lists of one length, joined, is list i
@@ -26,7 +26,7 @@ joined_part k g n sizes i l =
     sym (part_entries k i (joined n g) (omega (arith, within i n k l, length_joined k g n sizes)))
     ∙ sym (tabulated (g i) k (λ j. at (joined n g) (i * k + j)) 0 (sizes i l) λ j u. sym (joined_at k g n sizes i j l u))
 
-module _ {before : Record} {f : Framing} {slots marks areas maps results : List ℕ} {replayed : Replayed} {next : Record} {left left_maps left_results : List ℕ}
+module _ {before : Record} {f : Framing} {slots marks areas maps results : List ℕ} {replayed : Result ℕ ReplayError} {next : Record} {left left_maps left_results : List ℕ}
     (p : Replays before f slots marks areas maps results replayed next left left_maps left_results) where
   abbrev after : ℕ → Record
   after = record_after before f slots marks areas maps

@@ -1,18 +1,21 @@
 -- Document 02, No. 1, "Two masts": which of two copies of a frame is handed back, and what the calls on both answer and leave, for every input.
 -- Assumes nothing.
-use Rattle.std.specs.Prelude.{◌≡◌, not, List, [], ◌∷◌, ℕ, ◌+◌, ◌*◌, leb, eqb, get_or, replicate, if◌then◌else◌}
+use Rattle.std.specs.Prelude.{◌≡◌, not, Option, Some, None, Result, Ok, Err, List, [], ◌∷◌, ℕ, ◌+◌, ◌*◌, leb, eqb, get_or, if◌then◌else◌}
 use Rattle.algebra.specs.Tests.{total}
 use Rattle.algebra.specs.Refusal.{if_zero}
 use Rattle.word.specs.Answers.{no_figures}
 use Rattle.word.specs.declared.Figures.{Figures}
-use Rattle.frame.specs.Frame.{ReceiveOutcome, receive_outcome, refused_frame, receiving, number_of, word_number, verdict_as, payload_of}
+use Rattle.frame.specs.Frame.{ReceiveOutcome, receive_outcome, refused_frame, receiving, error_number, error_word, no_numbers, payload_of}
 use Rattle.frame.specs.declared.setting.Framing.{Framing}
+use Rattle.frame.specs.declared.setting.ReceiveError.{ReceiveError}
 use Rattle.frame.specs.declared.setting.Received.{Received}
 use Rattle.record.specs.Record.{noted}
 use Rattle.record.specs.declared.Record.{Record}
 use Rattle.link.specs.declared.choice.Mast.{Mast}
-use Rattle.link.specs.declared.choice.Mast.TheVariants.{First, Second, Neither}
+use Rattle.link.specs.declared.choice.Mast.TheVariants.{First, Second}
 use Rattle.link.specs.declared.choice.Chosen.{Chosen}
+use Rattle.link.specs.declared.choice.MastsError.{MastsError}
+use Rattle.link.specs.declared.choice.MastsError.TheVariants.{Refused, Differ}
 pub mod Laws
 
 -- ---- two copies
@@ -54,9 +57,9 @@ damage figures = total 16 (damage_at figures)
 
 -- ---- which is handed back
 
--- the mast that is used, what is answered, what is left for the two copies, and the payload as a part of one area
+-- the mast that is used, if one is, what is answered, what is left for the two copies, and the payload as a part of one area
 pub record MastsOutcome : Type 0 where
-  pub mast : Mast
+  pub mast : Option Mast
   pub number : ℕ
   pub word : ℕ
   pub sequence : ℕ
@@ -68,20 +71,20 @@ pub record MastsOutcome : Type 0 where
 
 module _ (a b : ReceiveOutcome) where
   -- one copy's answer is handed back, and each area and map is left as its own call leaves it
-  abbrev pub giving : Mast → ReceiveOutcome → MastsOutcome
+  abbrev pub giving : Option Mast → ReceiveOutcome → MastsOutcome
   giving mast o =
       record { mast = mast; number = o.number; word = o.word; sequence = o.sequence; back = o.back; figures = o.figures; first = left_by a; second = left_by b; payload = o.payload }
 
   -- both accepted: 8 where they are two frames, else the one that took less damage, the first on a tie
   unfoldable pub both_accepted : MastsOutcome
   both_accepted =
-      if not (eqb a.sequence b.sequence) then giving Neither (refused_frame 8 0 [] []) else
-      if leb (damage a.figures) (damage b.figures) then giving First a else
-      giving Second b
+      if not (eqb a.sequence b.sequence) then giving None (refused_frame 8 0 [] []) else
+      if leb (damage a.figures) (damage b.figures) then giving (Some First) a else
+      giving (Some Second) b
 
   -- one refused: the other; both refused: the first's refusal
   unfoldable pub choosing : MastsOutcome
-  choosing = if_zero a.number (if_zero b.number both_accepted (giving First a)) (if_zero b.number (giving Second b) (giving Neither a))
+  choosing = if_zero a.number (if_zero b.number both_accepted (giving (Some First) a)) (if_zero b.number (giving (Some Second) b) (giving None a))
 
 -- ---- the calls
 
@@ -106,41 +109,53 @@ handed_back_masts o = o.first.area ∷ o.second.area ∷ o.payload ∷ []
 
 -- ---- the code's answer in these terms
 
--- a copy's answer as that of both, and the answer under 8
-abbrev pub handed_on : Mast → Received → Chosen
-handed_on mast r =
-    record { mast = mast; number = number_of r.verdict; word = word_number r.verdict; sequence = r.sequence; back = r.back; figures = r.figures }
+-- the number of an answer, and the word that it names
+abbrev pub masts_number : Result Chosen MastsError → ℕ
+masts_number (Ok c) = 0
+masts_number (Err (Refused e)) = error_number e
+masts_number (Err Differ) = 8
 
-abbrev pub differing : Chosen
-differing = record { mast = Neither; number = 8; word = 0; sequence = 0; back = 0; figures = replicate 16 no_figures }
+abbrev pub masts_word : Result Chosen MastsError → ℕ
+masts_word (Ok c) = 0
+masts_word (Err (Refused e)) = error_word e
+masts_word (Err Differ) = 0
 
--- the answer of the copy that is used, and the part of its area that is handed back
-abbrev pub used_copy : Chosen → Received
-used_copy r = record { verdict = verdict_as r.number r.word; sequence = r.sequence; back = r.back; figures = r.figures }
+-- the mast that is used, and its copy's numbers; where neither is, there are none
+abbrev pub mast_of : Result Chosen MastsError → Option Mast
+mast_of (Ok c) = Some c.mast
+mast_of (Err e) = None
 
-abbrev pub payload_of_used : Mast → Received → (first second : List ℕ) → List ℕ
-payload_of_used First r first second = payload_of r first
-payload_of_used Second r first second = payload_of r second
-payload_of_used Neither r first second = []
+abbrev pub chosen_of : Result Chosen MastsError → Received
+chosen_of (Ok c) = c.copy
+chosen_of (Err e) = no_numbers
+
+-- the part of the area of that mast that is handed back
+abbrev pub payload_by : Mast → Received → (first second : List ℕ) → List ℕ
+payload_by First copy first second = payload_of (Ok copy) first
+payload_by Second copy first second = payload_of (Ok copy) second
+
+abbrev pub payload_of_used : Result Chosen MastsError → (first second : List ℕ) → List ℕ
+payload_of_used (Ok c) first second = payload_by c.mast c.copy first second
+payload_of_used (Err e) first second = []
 
 -- an answer with what it leaves for the two copies
-abbrev pub chosen_outcome : Chosen → (first second : Left) → MastsOutcome
+abbrev pub chosen_outcome : Result Chosen MastsError → (first second : Left) → MastsOutcome
 chosen_outcome r first second =
     record {
-      mast = r.mast;
-      number = r.number;
-      word = r.word;
-      sequence = r.sequence;
-      back = r.back;
-      figures = r.figures;
+      mast = mast_of r;
+      number = masts_number r;
+      word = masts_word r;
+      sequence = (chosen_of r).sequence;
+      back = (chosen_of r).back;
+      figures = (chosen_of r).figures;
       first = first;
       second = second;
-      payload = payload_of_used r.mast (used_copy r) first.area second.area;
+      payload = payload_of_used r first.area second.area;
     }
 
-abbrev pub hear_masts_outcome : Chosen → Record → (first second : Left) → HearMastsOutcome
+abbrev pub hear_masts_outcome : Result Chosen MastsError → Record → (first second : Left) → HearMastsOutcome
 hear_masts_outcome answer next first second = record { frame = chosen_outcome answer first second; next = next }
 
 -- an answer that is chosen of two, whatever they leave
-pub record Chooses (a b : Received) (r : Chosen) : Type 0 where
+pub record Chooses (a b : Result Received ReceiveError) (r : Result Chosen MastsError) : Type 0 where
   pub outcome : (first second : Left) → chosen_outcome r first second ≡ choosing (receive_outcome a first.area first.map) (receive_outcome b second.area second.map)

@@ -1,6 +1,6 @@
 -- Document 02, No. 2, "A morning's frames at once": what hearing up to 64 frames that lie end to end answers and leaves, for every input.
 -- Assumes nothing.
-use Rattle.std.specs.Prelude.{List, [], ◌∷◌, ℕ, zero, suc, ◌*◌, ◌/◌, length, get_or}
+use Rattle.std.specs.Prelude.{Result, Ok, Err, List, [], ◌∷◌, ℕ, zero, suc, ◌*◌, ◌/◌, length, get_or}
 use Rattle.std.proofs.Math.Decide.{ℕ_discrete, dec_le}
 use Rattle.algebra.specs.Lists.{joined, part}
 use Rattle.algebra.specs.Refusal.{need, if_zero, passes}
@@ -10,9 +10,10 @@ use Rattle.frame.specs.Frame.{slot_count, area_size, allowed_frame, ReceiveOutco
 use Rattle.frame.specs.declared.setting.Framing.{Framing}
 use Rattle.record.specs.declared.Record.{Record}
 use Rattle.link.specs.Receiver.{HearOutcome, hearing}
-use Rattle.link.specs.declared.replaying.Replayed.{Replayed}
+use Rattle.link.specs.declared.replaying.ReplayError.{ReplayError}
+use Rattle.link.specs.declared.replaying.ReplayError.TheVariants.{BadSetting, BadLength}
 pub mod Checks
-pub mod Result
+pub mod Places
 pub mod Turns
 pub mod Whole
 pub mod Each
@@ -61,8 +62,18 @@ pub record ReplayOutcome : Type 0 where
   pub results : List ℕ
   pub next : Record
 
-abbrev pub replay_outcome : Replayed → Record → (areas maps results : List ℕ) → ReplayOutcome
-replay_outcome answer next areas maps results = record { number = answer.number; frames = answer.frames; areas = areas; maps = maps; results = results; next = next }
+-- the number of an answer, and how many frames were heard
+abbrev pub replay_number : {A : Type 0} → Result A ReplayError → ℕ
+replay_number (Ok a) = 0
+replay_number (Err BadSetting) = 1
+replay_number (Err BadLength) = 2
+
+abbrev pub frames_of : Result ℕ ReplayError → ℕ
+frames_of (Ok frames) = frames
+frames_of (Err e) = 0
+
+abbrev pub replay_outcome : Result ℕ ReplayError → Record → (areas maps results : List ℕ) → ReplayOutcome
+replay_outcome answer next areas maps results = record { number = replay_number answer; frames = frames_of answer; areas = areas; maps = maps; results = results; next = next }
 
 -- so many frames are heard, one after the other
 abbrev pub heard_in_turn : Record → Framing → (slots marks areas maps : List ℕ) → ℕ → ReplayOutcome

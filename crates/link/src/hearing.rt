@@ -2,15 +2,15 @@
 // was answered is noted in the record, so that no caller notes another number.
 ghost use Rattle.link.specs.Promises.{Hears};
 
-use frame::numbers::number_of;
-use frame::{Framing, Received, receive};
+use frame::numbers::{number_of, received_of};
+use frame::{Framing, ReceiveError, Received, receive};
 use record::{Record, note};
 
 // What hearing a frame gives: the record after it, and the frame's answer.
 #[derive(Drop)]
 pub struct Heard {
     pub next: Record,
-    pub answer: Received,
+    pub answer: Result<Received, ReceiveError>,
 }
 
 // Receives a frame into the lent area and map as `receive` does, and notes its number and its sequence number in the record.
@@ -25,8 +25,7 @@ pub fn hear(
     ensures { Hears before f slots.now marks.now area.old map.old result.answer result.next area.new map.new }
 {
     let answer = receive(f, slots, marks, area, map);
-    let verdict = answer.verdict;
-    let next = note(before, number_of(verdict), answer.sequence);
+    let next = note(before, number_of(answer), received_of(answer).sequence);
     Heard { next, answer }
 }
 
@@ -38,10 +37,10 @@ pub fn hear_in(
     marks: &[u8],
     area: &mut [u8],
     map: &mut [u8],
-) -> Received
+) -> Result<Received, ReceiveError>
     ensures { Hears lent.old f slots.now marks.now area.old map.old result lent.new area.new map.new }
 {
-    let t = hear(*lent, f, slots, marks, area, map);
-    *lent = t.next;
-    t.answer
+    let heard = hear(*lent, f, slots, marks, area, map);
+    *lent = heard.next;
+    heard.answer
 }

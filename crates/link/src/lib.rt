@@ -7,12 +7,14 @@
 mod choice;
 mod hearing;
 mod masts;
+pub mod numbers;
 mod part;
 mod replaying;
 
 // Frames.
 pub use frame::{
-    Clean, Framing, Received, Sent, Verdict, is_allowed, is_clean, payload, receive, send,
+    CleanError, Framing, ReceiveError, Received, SendError, is_allowed, is_clean, payload, receive,
+    send,
 };
 pub use part::receive_part;
 
@@ -23,10 +25,10 @@ pub use record::{Kind, Record, fresh, note, note_in, standing_of, unseen_of};
 pub use hearing::{Heard, hear, hear_in};
 
 // A morning's frames at once.
-pub use replaying::{ReplayHeard, Replayed, replay, replay_in};
+pub use replaying::{ReplayError, ReplayHeard, replay, replay_in};
 
 // Two masts.
-pub use choice::{Chosen, Mast};
+pub use choice::{Chosen, Mast, MastsError};
 pub use masts::{
     MastsHeard, hear_masts, hear_masts_in, masts_payload, receive_masts, receive_masts_part,
 };

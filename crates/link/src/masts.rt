@@ -1,19 +1,19 @@
 // Two masts: document 02, No. 1. Two receivers hear one frame, each with its own damage. Both copies are decoded, each into an area of its
 // own and with a map of its own, and one frame is handed back and noted.
-ghost use Rattle.std.specs.Prelude.{◌≡◌, map};
-ghost use Rattle.link.specs.Masts.{copy_of, left_of, used_copy};
+ghost use Rattle.std.specs.Prelude.{map};
+ghost use Rattle.link.specs.Masts.{copy_of, left_of};
 ghost use Rattle.link.specs.Promises.{ReceivesMasts, HandsBackOne, ReceivesMastsPart, HearsMasts};
 
-use crate::choice::{Chosen, Mast, choose};
-use frame::numbers::verdict_as;
-use frame::{Framing, Received, payload, receive};
+use crate::choice::{Chosen, Mast, MastsError, choose};
+use crate::numbers::{chosen_of, masts_number};
+use frame::{Framing, payload, receive};
 use record::{Record, note};
 
 // What hearing two copies gives: the record after them, and what they were answered together.
 #[derive(Drop)]
 pub struct MastsHeard {
     pub next: Record,
-    pub answer: Chosen,
+    pub answer: Result<Chosen, MastsError>,
 }
 
 // Decodes each copy into its area and map as `receive` does, and answers the better one. A copy that is refused leaves the other as it is.
@@ -27,7 +27,7 @@ pub fn receive_masts(
     marks2: &[u8],
     area2: &mut [u8],
     map2: &mut [u8],
-) -> Chosen
+) -> Result<Chosen, MastsError>
     ensures { ReceivesMasts f (copy_of slots1.now marks1.now area1.old map1.old) (copy_of slots2.now marks2.now area2.old map2.old) result (left_of area1.new map1.new) (left_of area2.new map2.new) }
 {
     let one = receive(f, slots1, marks1, area1, map1);
@@ -35,35 +35,20 @@ pub fn receive_masts(
     choose(one, other)
 }
 
-// The answer of the copy that is used.
-fn used_copy(answer: Chosen) -> Received
-    ensures { result ≡ used_copy answer }
-{
-    let figures = answer.figures;
-    Received {
-        verdict: verdict_as(answer.number, answer.word),
-        sequence: answer.sequence,
-        back: answer.back,
-        figures,
-    }
-}
-
 // The payload of the copy that is used, as that part of its mast's area itself. The part is empty where neither is.
-pub fn masts_payload<'a>(first: &'a [u8], second: &'a [u8], answer: Chosen) -> &'a [u8]
+pub fn masts_payload<'a>(
+    first: &'a [u8],
+    second: &'a [u8],
+    answer: Result<Chosen, MastsError>,
+) -> &'a [u8]
     ensures { HandsBackOne first.now second.now answer result.now }
 {
-    let copy = used_copy(answer);
-    let mast = answer.mast;
-    match mast {
-        Mast::First => {
-            return payload(first, copy);
-        }
-        Mast::Second => {
-            return payload(second, copy);
-        }
-        Mast::Neither => {
-            return &first[0..0];
-        }
+    match answer {
+        Ok(chosen) => match chosen.mast {
+            Mast::First => payload(first, Ok(chosen.copy)),
+            Mast::Second => payload(second, Ok(chosen.copy)),
+        },
+        Err(_) => &first[0..0],
     }
 }
 
@@ -114,7 +99,7 @@ pub fn hear_masts(
     ensures { HearsMasts before f (copy_of slots1.now marks1.now area1.old map1.old) (copy_of slots2.now marks2.now area2.old map2.old) result.answer result.next (left_of area1.new map1.new) (left_of area2.new map2.new) }
 {
     let answer = receive_masts(f, slots1, marks1, area1, map1, slots2, marks2, area2, map2);
-    let next = note(before, answer.number, answer.sequence);
+    let next = note(before, masts_number(answer), chosen_of(answer).sequence);
     MastsHeard { next, answer }
 }
 
@@ -130,12 +115,12 @@ pub fn hear_masts_in(
     marks2: &[u8],
     area2: &mut [u8],
     map2: &mut [u8],
-) -> Chosen
+) -> Result<Chosen, MastsError>
     ensures { HearsMasts lent.old f (copy_of slots1.now marks1.now area1.old map1.old) (copy_of slots2.now marks2.now area2.old map2.old) result lent.new (left_of area1.new map1.new) (left_of area2.new map2.new) }
 {
-    let t = hear_masts(
+    let heard = hear_masts(
         *lent, f, slots1, marks1, area1, map1, slots2, marks2, area2, map2,
     );
-    *lent = t.next;
-    t.answer
+    *lent = heard.next;
+    heard.answer
 }

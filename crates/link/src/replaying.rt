@@ -2,28 +2,28 @@
 // Each is heard as `hear` does, with the record that the one before it left.
 ghost use Rattle.std.specs.Prelude.{◌≡◌, [], length};
 ghost use Rattle.frame.specs.Frame.{receive_outcome};
-ghost use Rattle.link.specs.Replay.{numbers_of, result_of, replay_refusal};
+ghost use Rattle.link.specs.Replay.{numbers_of, result_of, replay_number, replay_refusal};
 ghost use Rattle.link.specs.Replay.Checks.{ReplayChecked};
 ghost use Rattle.link.specs.Promises.{Replays};
 
 use crate::hearing::hear;
-use frame::numbers::{number_of, word_number};
-use frame::{Framing, Received, is_allowed};
+use frame::numbers::{number_of, received_of, word_number};
+use frame::{Framing, ReceiveError, Received, is_allowed};
 use record::Record;
 use word::Figures;
 
-// What a replay answers: the whole call's number, and how many frames were heard.
-#[derive(Drop)]
-pub struct Replayed {
-    pub number: u8,
-    pub frames: usize,
+// Why all frames are refused before any is read.
+#[derive(Clone, Copy, Debug, PartialEq, Eq)]
+pub enum ReplayError {
+    BadSetting,
+    BadLength,
 }
 
-// What a replay gives: the record after the last frame, and its answer.
+// What a replay gives: the record after the last frame, and how many frames were heard.
 #[derive(Drop)]
 pub struct ReplayHeard {
     pub next: Record,
-    pub answer: Replayed,
+    pub answer: Result<usize, ReplayError>,
 }
 
 // Puts e, f and bits of each word one after the other.
@@ -31,8 +31,7 @@ fn put_figures(figures: [Figures; 16], place: &mut [u16])
     requires { length place.old ≡ 48 }
     ensures { place.new ≡ numbers_of figures }
 {
-    for w in 0..16 {
-        let found = figures[w];
+    for (w, found) in figures.iter().enumerate() {
         place[3 * w] = found.errors;
         place[3 * w + 1] = found.marked;
         place[3 * w + 2] = found.bits;
@@ -40,55 +39,46 @@ fn put_figures(figures: [Figures; 16], place: &mut [u16])
 }
 
 // Puts what a frame was answered into its place: its number, word, sequence number and back, and then its words' figures.
-fn put_result(answer: Received, place: &mut [u16])
+fn put_result(answer: Result<Received, ReceiveError>, place: &mut [u16])
     requires { length place.old ≡ 52 }
     ensures { place.new ≡ result_of (receive_outcome answer [] []) }
 {
-    let verdict = answer.verdict;
-    let figures = answer.figures;
-    place[0] = number_of(verdict) as u16;
-    place[1] = word_number(verdict) as u16;
-    place[2] = answer.sequence;
-    place[3] = answer.back;
-    let rest = &mut place[4..52];
-    put_figures(figures, rest);
+    let numbers = received_of(answer);
+    place[0] = u16::from(number_of(answer));
+    place[1] = u16::from(word_number(answer));
+    place[2] = numbers.sequence;
+    place[3] = numbers.back;
+    put_figures(numbers.figures, &mut place[4..52]);
 }
 
-// The number by which all frames are refused before any is read, or 0. More slots than 64 frames hold come before a total that does not fit.
-fn replay_refusal(
+// Whether the frames can be heard. More slots than 64 frames hold come before a total that does not fit.
+fn check_replay(
     f: Framing,
     slots: &[u8],
     marks: &[u8],
     areas: &[u8],
     maps: &[u8],
     results: &[u16],
-) -> u8
-    ensures { result ≡ replay_refusal f slots.now marks.now areas.now maps.now results.now }
+) -> Result<(), ReplayError>
+    ensures { replay_number result ≡ replay_refusal f slots.now marks.now areas.now maps.now results.now }
 {
     if !is_allowed(f) {
-        return 1;
+        return Err(ReplayError::BadSetting);
     }
     let size = f.n * f.depth;
     if 64 * size < slots.len() {
-        return 1;
+        return Err(ReplayError::BadSetting);
     }
     let frames = slots.len() / size;
-    if slots.len() != frames * size {
-        return 2;
+    if slots.len() != frames * size
+        || marks.len() != slots.len()
+        || areas.len() != frames * (f.depth * (f.n - f.r))
+        || maps.len() != slots.len()
+        || results.len() != frames * 52
+    {
+        return Err(ReplayError::BadLength);
     }
-    if marks.len() != slots.len() {
-        return 2;
-    }
-    if areas.len() != frames * (f.depth * (f.n - f.r)) {
-        return 2;
-    }
-    if maps.len() != slots.len() {
-        return 2;
-    }
-    if results.len() != frames * 52 {
-        return 2;
-    }
-    0
+    Ok(())
 }
 
 // Hears frames that have passed the checks, one after the other. A refused one does not stop the rest.
@@ -118,8 +108,10 @@ fn hear_all(
         let place = &mut results[i * 52..i * 52 + 52];
         put_result(heard.answer, place);
     }
-    let answer = Replayed { number: 0, frames };
-    ReplayHeard { next, answer }
+    ReplayHeard {
+        next,
+        answer: Ok(frames),
+    }
 }
 
 // Hears up to 64 frames that lie end to end, each with the record that the one before it left. Where the whole call is refused, nothing is
@@ -135,15 +127,13 @@ pub fn replay(
 ) -> ReplayHeard
     ensures { Replays before f slots.now marks.now areas.old maps.old results.old result.answer result.next areas.new maps.new results.new }
 {
-    let number = replay_refusal(f, slots, marks, areas, maps, results);
-    if number != 0 {
-        let answer = Replayed { number, frames: 0 };
-        return ReplayHeard {
+    match check_replay(f, slots, marks, areas, maps, results) {
+        Ok(()) => hear_all(before, f, slots, marks, areas, maps, results),
+        Err(reason) => ReplayHeard {
             next: before,
-            answer,
-        };
+            answer: Err(reason),
+        },
     }
-    hear_all(before, f, slots, marks, areas, maps, results)
 }
 
 // The same over a lent record, which is updated where it stands.
@@ -155,10 +145,10 @@ pub fn replay_in(
     areas: &mut [u8],
     maps: &mut [u8],
     results: &mut [u16],
-) -> Replayed
+) -> Result<usize, ReplayError>
     ensures { Replays lent.old f slots.now marks.now areas.old maps.old results.old result lent.new areas.new maps.new results.new }
 {
-    let t = replay(*lent, f, slots, marks, areas, maps, results);
-    *lent = t.next;
-    t.answer
+    let heard = replay(*lent, f, slots, marks, areas, maps, results);
+    *lent = heard.next;
+    heard.answer
 }

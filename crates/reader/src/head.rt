@@ -5,21 +5,11 @@ ghost use Rattle.reader.specs.Head.{framing_of, wanted_of};
 
 use link::{Framing, is_allowed};
 
-// A byte as a size.
-fn wide(x: u8) -> usize
-    ensures { result ≡ x }
-{
-    x as usize
-}
-
 // The byte at place i as a size; 0 past the end.
 fn byte_at(input: &[u8], i: usize) -> usize
     ensures { result ≡ at input.now i }
 {
-    if i < input.len() {
-        return wide(input[i]);
-    }
-    0
+    input.get(i).map_or(0, |x| usize::from(*x))
 }
 
 // The setting in the first four bytes: depth, n, r and b. A byte that is missing counts as 0: whoever tells a short input from a bad

@@ -1,16 +1,16 @@
 // From the input to the text: the frame is received with no marks into work space, and what it was answered is told.
-ghost use Rattle.std.specs.Prelude.{◌≡◌, ◌≤◌, length};
+ghost use Rattle.std.specs.Prelude.{◌≡◌, ◌+◌, ◌≤◌, length};
 ghost use Rattle.frame.specs.Frame.{receiving};
 ghost use Rattle.frame.specs.Frame.Limits.{FrameAllowed};
-ghost use Rattle.text.specs.Put.{Put};
+ghost use Rattle.text.specs.Page.{Writes};
 ghost use Rattle.reader.specs.Promises.{Reports};
-ghost use Rattle.reader.specs.Spoken.{blank, answer_to, told};
+ghost use Rattle.reader.specs.Spoken.{blank, answer_to, told, spoken};
 
 use crate::head::framing;
 use crate::lines::put_frame;
 use frame::numbers::number_of;
 use link::{Framing, is_allowed};
-use text::put_refusal;
+use text::Page;
 
 // Work space for a frame, filled with zeros. A call of its own keeps the array out of its callers' proofs.
 fn work_space() -> [u8; 4080]
@@ -26,16 +26,17 @@ fn put_answer(
     marks: &[u8],
     area: &mut [u8],
     map: &mut [u8],
-    text: &mut [u8],
-) -> usize
-    requires { (f.depth ≤ 16) × (length area.old ≤ 4080) × (length map.old ≤ 4080) × (30000 ≤ length text.old) }
-    ensures { Put (told f.depth (receiving f slots.now marks.now area.old map.old)) text.old 0 result text.new }
+    page: &mut Page,
+)
+    requires { (f.depth ≤ 16) × (length area.old ≤ 4080) × (length map.old ≤ 4080) × (page.old.end + 30000 ≤ length page.old.text.now) }
+    ensures { Writes (told f.depth (receiving f slots.now marks.now area.old map.old)) page.old page.new }
 {
     let answer = link::receive(f, slots, marks, area, map);
     let verdict = answer.verdict;
     let number = number_of(verdict);
     if number != 0 {
-        return put_refusal(number, text, 0);
+        page.put_refusal(number);
+        return;
     }
     let figures = answer.figures;
     put_frame(
@@ -44,14 +45,14 @@ fn put_answer(
         figures,
         link::payload(area, answer),
         map,
-        text,
-    )
+        page,
+    );
 }
 
 // The same of a frame without marks, in work space of its own.
-fn put_unmarked(f: Framing, slots: &[u8], text: &mut [u8]) -> usize
-    requires { FrameAllowed f × (30000 ≤ length text.old) }
-    ensures { Put (told f.depth (answer_to f slots.now)) text.old 0 result text.new }
+fn put_unmarked(f: Framing, slots: &[u8], page: &mut Page)
+    requires { FrameAllowed f × (page.old.end + 30000 ≤ length page.old.text.now) }
+    ensures { Writes (told f.depth (answer_to f slots.now)) page.old page.new }
 {
     let marks = work_space();
     let mut area = work_space();
@@ -64,8 +65,25 @@ fn put_unmarked(f: Framing, slots: &[u8], text: &mut [u8]) -> usize
         &marks[..count],
         &mut area[..size],
         &mut map[..count],
-        text,
-    )
+        page,
+    );
+}
+
+// Writes the text for an input.
+fn put_spoken(input: &[u8], page: &mut Page)
+    requires { page.old.end + 30000 ≤ length page.old.text.now }
+    ensures { Writes (spoken input.now) page.old page.new }
+{
+    if input.len() < 4 {
+        page.put_refusal(2);
+        return;
+    }
+    let f = framing(input);
+    if !is_allowed(f) {
+        page.put_refusal(1);
+        return;
+    }
+    put_unmarked(f, &input[4..], page);
 }
 
 // Writes the bench reader's text for an input at the start of the lent text, and answers how long it is. What stands behind it stays.
@@ -73,12 +91,10 @@ fn put_unmarked(f: Framing, slots: &[u8], text: &mut [u8]) -> usize
 pub fn report(input: &[u8], text: &mut [u8; 30000]) -> usize
     ensures { Reports input.now text.old result text.new }
 {
-    if input.len() < 4 {
-        return put_refusal(2, text, 0);
-    }
-    let f = framing(input);
-    if !is_allowed(f) {
-        return put_refusal(1, text, 0);
-    }
-    put_unmarked(f, &input[4..], text)
+    let mut page = Page {
+        text: &mut text[..],
+        end: 0,
+    };
+    put_spoken(input, &mut page);
+    page.end
 }

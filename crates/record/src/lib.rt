@@ -17,7 +17,7 @@ use order::{Order, compare, lag_of, lead_of};
 
 // A caller makes it by `fresh` and hands it to every call that receives. The C face lends it, so its fields keep their order.
 #[repr(C)]
-#[derive(Clone, Copy)]
+#[derive(Clone, Copy, Debug, PartialEq, Eq, Default)]
 pub struct Record {
     pub accepted: bool,
     pub last: u16,
@@ -30,7 +30,7 @@ pub struct Record {
 }
 
 // How a sequence number stands to what the record has accepted.
-#[derive(Clone, Copy)]
+#[derive(Clone, Copy, Debug, PartialEq, Eq)]
 pub enum Kind {
     Newer,
     Repeat,
@@ -42,16 +42,7 @@ pub enum Kind {
 pub fn fresh() -> Record
     ensures { result ≡ fresh_record }
 {
-    Record {
-        accepted: false,
-        last: 0,
-        newer: 0,
-        repeat: 0,
-        older: 0,
-        refused: 0,
-        late: 0,
-        seen: 0,
-    }
+    Record::default()
 }
 
 // What an accepted frame is that lies this far behind the last newest one: beyond the memory's reach it is older.
@@ -69,6 +60,7 @@ fn behind_by(seen: u32, distance: u16) -> Kind
 }
 
 // How an accepted frame with this number stands to what the record has accepted. The first is newer, whatever the last number says.
+#[tactic(auto, using(crate::specs::Record::Laws::behind_lags), unfolding(crate::specs::Record::standing))]
 pub fn standing_of(before: Record, sequence: u16) -> Kind
     ensures { result ≡ standing before sequence }
 {
@@ -76,15 +68,9 @@ pub fn standing_of(before: Record, sequence: u16) -> Kind
         return Kind::Newer;
     }
     match compare(sequence, before.last) {
-        Order::Same => {
-            return Kind::Repeat;
-        }
-        Order::Ahead => {
-            return Kind::Newer;
-        }
-        Order::Behind => {
-            return behind_by(before.seen, lag_of(sequence, before.last));
-        }
+        Order::Same => Kind::Repeat,
+        Order::Ahead => Kind::Newer,
+        Order::Behind => behind_by(before.seen, lag_of(sequence, before.last)),
     }
 }
 
@@ -99,10 +85,11 @@ pub fn unseen_of(before: Record) -> u32
 fn one_more(count: u32) -> u32
     ensures { result ≡ one_more count }
 {
-    if count < 4294967295 { count + 1 } else { count }
+    count.saturating_add(1)
 }
 
 // The memory once a newer number is the last. The first frame leaves all 32 unseen, whatever the memory says.
+#[tactic(auto, using(crate::specs::Record::Laws::newer_leads), unfolding(crate::specs::Record::memory_after))]
 fn memory_after(before: Record, sequence: u16) -> u32
     requires { Newer ≡ standing before sequence }
     ensures { result ≡ memory_after before sequence }
@@ -114,32 +101,35 @@ fn memory_after(before: Record, sequence: u16) -> u32
 }
 
 // The record after an accepted frame of this kind: only a newer one moves the last number, and a late one is remembered.
+#[tactic(auto, using(crate::specs::Record::Laws::late_within))]
 fn counted(before: Record, sequence: u16, kind: Kind) -> Record
     requires { kind ≡ standing before sequence }
     ensures { result ≡ counted_as before sequence kind }
 {
-    let mut next = before;
-    next.accepted = true;
     match kind {
-        Kind::Newer => {
-            next.last = sequence;
-            next.seen = memory_after(before, sequence);
-            next.newer = one_more(before.newer);
-            return next;
-        }
-        Kind::Repeat => {
-            next.repeat = one_more(before.repeat);
-            return next;
-        }
-        Kind::Older => {
-            next.older = one_more(before.older);
-            return next;
-        }
-        Kind::Late => {
-            next.seen = see(before.seen, lag_of(sequence, before.last));
-            next.late = one_more(before.late);
-            return next;
-        }
+        Kind::Newer => Record {
+            accepted: true,
+            last: sequence,
+            newer: one_more(before.newer),
+            seen: memory_after(before, sequence),
+            ..before
+        },
+        Kind::Repeat => Record {
+            accepted: true,
+            repeat: one_more(before.repeat),
+            ..before
+        },
+        Kind::Older => Record {
+            accepted: true,
+            older: one_more(before.older),
+            ..before
+        },
+        Kind::Late => Record {
+            accepted: true,
+            late: one_more(before.late),
+            seen: see(before.seen, lag_of(sequence, before.last)),
+            ..before
+        },
     }
 }
 
@@ -147,26 +137,23 @@ fn counted(before: Record, sequence: u16, kind: Kind) -> Record
 fn lost(before: Record) -> Record
     ensures { result ≡ lost_after before }
 {
-    let mut next = before;
-    next.refused = one_more(before.refused);
-    next
+    Record {
+        refused: one_more(before.refused),
+        ..before
+    }
 }
 
 // The record after a frame that was answered `number`; its sequence number counts only where that is 0.
 // 4 and 5 add to the refused ones, and every other refusal leaves the record as it was.
+#[tactic(auto, unfolding(crate::specs::Record::noted))]
 pub fn note(before: Record, number: u8, sequence: u16) -> Record
     ensures { Notes before number sequence result }
 {
-    if number == 4 {
-        return lost(before);
+    match number {
+        0 => counted(before, sequence, standing_of(before, sequence)),
+        4 | 5 => lost(before),
+        _ => before,
     }
-    if number == 5 {
-        return lost(before);
-    }
-    if number != 0 {
-        return before;
-    }
-    counted(before, sequence, standing_of(before, sequence))
 }
 
 // The same over a lent record, which is updated where it stands.

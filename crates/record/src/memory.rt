@@ -5,6 +5,7 @@ ghost use Rattle.std.specs.Prelude.{◌≡◌, ◌≤◌};
 ghost use Rattle.record.specs.Memory.{seen_at, slid, seeing, unseen_in};
 
 // Whether the number at this distance was seen.
+#[tactic(auto, unfolding(crate::specs::Memory::seen_at))]
 pub fn seen_at(memory: u32, distance: u16) -> bool
     requires { (1 ≤ distance) × (distance ≤ 32) }
     ensures { result ≡ seen_at memory distance }
@@ -13,6 +14,7 @@ pub fn seen_at(memory: u32, distance: u16) -> bool
 }
 
 // The memory once the number at this distance was seen.
+#[tactic(auto, using(crate::specs::Memory::Laws::seen_by))]
 pub fn see(memory: u32, distance: u16) -> u32
     requires { (1 ≤ distance) × (distance ≤ 32) }
     ensures { result ≡ seeing memory distance }
@@ -21,6 +23,7 @@ pub fn see(memory: u32, distance: u16) -> u32
 }
 
 // The memory once the last number has moved on by this step: what was the last is seen, and what is now farther than 32 is forgotten.
+#[tactic(auto, using(crate::specs::Memory::Laws::slid_by, crate::specs::Memory::Laws::slid_past))]
 pub fn slide(memory: u32, step: u16) -> u32
     requires { 1 ≤ step }
     ensures { result ≡ slid memory step }
@@ -32,8 +35,9 @@ pub fn slide(memory: u32, step: u16) -> u32
 }
 
 // How many of the 32 are unseen.
+#[tactic(auto, using(crate::specs::Memory::Laws::zeros_unseen))]
 pub fn count_unseen(memory: u32) -> u32
     ensures { result ≡ unseen_in memory }
 {
-    32 - u32::count_ones(memory)
+    memory.count_zeros()
 }

@@ -3,8 +3,9 @@
 ghost use Rattle.std.specs.Prelude.{◌≡◌};
 ghost use Rattle.record.specs.Order.{lead, lag, compared};
 
-// A number is the other one again, ahead of it by 1 to 32767, or behind it.
-#[derive(Clone, Copy)]
+// A number is the other one again, ahead of it by 1 to 32767, or behind it. The standard ordering says less of numbers that go round: what is
+// ahead of a number ahead may be behind.
+#[derive(Clone, Copy, Debug, PartialEq, Eq)]
 pub enum Order {
     Same,
     Ahead,
@@ -15,26 +16,24 @@ pub enum Order {
 pub fn lead_of(new: u16, last: u16) -> u16
     ensures { result ≡ lead new last }
 {
-    std::num::wrapping_sub_u16(new, last)
+    new.wrapping_sub(last)
 }
 
 // The last number minus the new: how far behind a number is that is not ahead.
 pub fn lag_of(new: u16, last: u16) -> u16
     ensures { result ≡ lag new last }
 {
-    std::num::wrapping_sub_u16(0, lead_of(new, last))
+    lead_of(new, last).wrapping_neg()
 }
 
 // How the new number stands to the last.
+#[tactic(auto, unfolding(crate::specs::Order::compared))]
 pub fn compare(new: u16, last: u16) -> Order
     ensures { result ≡ compared new last }
 {
-    let d = lead_of(new, last);
-    if d == 0 {
-        return Order::Same;
+    match lead_of(new, last) {
+        0 => Order::Same,
+        1..=32767 => Order::Ahead,
+        _ => Order::Behind,
     }
-    if d < 32768 {
-        return Order::Ahead;
-    }
-    Order::Behind
 }

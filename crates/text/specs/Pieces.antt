@@ -1,50 +1,43 @@
--- The pieces of the text as they are written: digits, names and bytes in base sixteen.
+-- The pieces of a text as they are written on a page: digits, names and bytes in base sixteen.
 -- Assumes nothing.
 use Rattle.std.specs.Prelude.{◌≡◌, List, [], ◌∷◌, ℕ, ◌+◌, ◌*◌, ◌/◌, ◌%◌, ◌≤◌, ◌<◌, length, get_or, take}
 use Rattle.std.proofs.Common.{ap, ◌∙◌, arith, take_all, length-take-le}
-use Rattle.text.specs.Put.{Put, put_none, put_then, put_size}
-use Rattle.text.specs.Text.{bytes, digit, decimal, named, refusal, hex_digit, hex, hexes}
+use Rattle.text.specs.Page.{Writes, WritesWithin, writes_then, writes_size, writes_end, writes_none}
+use Rattle.text.specs.Text.{digit, decimal, hex, hexes}
 use Rattle.text.specs.Text.Decimal.{decimal_one, decimal_more}
 use Rattle.text.specs.Text.Hex.{hexes_more, hexes_size}
+use Rattle.text.specs.declared.Page.{Page}
 
--- ---- a number, its name and the line of a refusal
+-- ---- a number
 
-pub put_short : (n b : ℕ) {text left : List ℕ} {at end : ℕ} → n < 10 → b ≡ digit n → Put (b ∷ []) text at end left → Put (decimal n) text at end left
-put_short n b l e p = rw (decimal_one n l, ← e) p
+-- its last digit, behind the digits of its tenth part where there are any
+module _ (n last : ℕ) {turned after : Page} (e : last ≡ digit (n % 10)) (q : Writes (last ∷ []) turned after) {before : Page} where
+  pub writes_digit : n < 10 → turned ≡ before → Writes (decimal n) before after
+  writes_digit l s =
+      let alone : digit n ≡ last = omega (arith, e) in
+      rw (decimal_one n l, alone, ← s) q
 
-module _ (n : ℕ) {text t₁ left : List ℕ} {at a₁ end : ℕ} where
-  pub put_last : (b : ℕ) → 10 ≤ n → b ≡ digit (n % 10) → Put (decimal (n / 10)) text at a₁ t₁ → Put (b ∷ []) t₁ a₁ end left → Put (decimal n) text at end left
-  put_last b l e p q = rw (decimal_more n l, ← e) (put_then p q)
-
-  pub put_name : (name : List ℕ) → Put name text at a₁ t₁ → Put (decimal n) t₁ a₁ end left → Put (named name n) text at end left
-  unfolding named
-  put_name name p q = put_then p q
-
-  pub put_refused : Put (named (bytes "refused ") n) text at a₁ t₁ → Put (bytes "\n") t₁ a₁ end left → Put (refusal n) text at end left
-  unfolding refusal
-  put_refused p q = put_then p q
+  pub writes_last : {between : Page} → 10 ≤ n → Writes (decimal (n / 10)) before between → turned ≡ between → Writes (decimal n) before after
+  writes_last l p s = rw (decimal_more n l, ← e) (writes_then p (rw s at q))
 
 -- ---- bytes in base sixteen
 
-pub put_both : (x a b : ℕ) {text t₁ left : List ℕ} {at a₁ end : ℕ} → a ≡ hex_digit (x / 16) → b ≡ hex_digit (x % 16)
-    → Put (a ∷ []) text at a₁ t₁ → Put (b ∷ []) t₁ a₁ end left → Put (hex x) text at end left
-unfolding hex
-put_both x a b e f p q = rw (← e, ← f) (put_then p q)
-
-module _ (bytes text : List ℕ) (at : ℕ) where
-  pub hexes_begun : at + 2 * length bytes ≤ length text → Put (hexes (take 0 bytes)) text at at text
+module _ (bytes : List ℕ) (before : Page) where
+  pub hexes_begun : before.end ≤ length before.text.now → Writes (hexes (take 0 bytes)) before before
   unfolding hexes
-  hexes_begun room = put_none text at (omega arith)
+  hexes_begun room = writes_none before room
 
-  module _ (i end : ℕ) (after : List ℕ) (p : Put (hexes (take i bytes)) text at end after) where
+  module _ (i : ℕ) (after : Page) (p : Writes (hexes (take i bytes)) before after) where
     -- the next byte has room
-    pub hexes_room : at + 2 * length bytes ≤ length text → i < length bytes → end + 2 ≤ length after
+    pub hexes_room : before.end + 2 * length bytes ≤ length before.text.now → i < length bytes → after.end + 2 ≤ length after.text.now
     hexes_room room l =
         let size = hexes_size (take i bytes) ∙ ap (λ (n : ℕ). 2 * n) (length-take-le i bytes (omega arith)) in
-        omega (arith, put_size p, p.next)
+        omega (arith, writes_size p, writes_end p)
 
-    pub hexes_on : (last : ℕ) (left : List ℕ) → i < length bytes → Put (hex (get_or bytes i 0)) after end last left → Put (hexes (take (i + 1) bytes)) text at last left
-    hexes_on last left l q = rw (hexes_more bytes i l) (put_then p q)
+    pub hexes_on : (last : Page) → i < length bytes → Writes (hex (get_or bytes i 0)) after last → Writes (hexes (take (i + 1) bytes)) before last
+    hexes_on last l q = rw (hexes_more bytes i l) (writes_then p q)
 
-    pub hexes_done : length bytes ≤ i → Put (hexes bytes) text at end after
-    hexes_done l = rw take_all at p
+    pub hexes_done : length bytes ≤ i → WritesWithin (2 * length bytes) (hexes bytes) before after
+    hexes_done l =
+        let whole : Writes (hexes bytes) before after = rw take_all at p in
+        record { whole = whole; within = omega (arith, writes_end whole, hexes_size bytes) }

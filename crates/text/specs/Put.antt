@@ -1,7 +1,7 @@
 -- A piece of text written into a lent buffer: the promise of every call that writes one. What stands before it and behind it stays.
 -- Assumes nothing.
-use Rattle.std.specs.Prelude.{◌≡◌, refl, List, [], ◌∷◌, ◌++◌, ℕ, ◌+◌, ◌≤◌, ◌<◌, length, get_or, take, drop, set}
-use Rattle.std.proofs.Common.{sym, ap, ◌∙◌, append_assoc, append-nil, add-one, arith, length-append, length-drop, take-append-drop, length-take-le, take_at, drop-drop, take-suc, take_all}
+use Rattle.std.specs.Prelude.{◌≡◌, refl, List, [], ◌∷◌, ◌++◌, ℕ, ◌+◌, ◌≤◌, ◌<◌, length, take, drop, set}
+use Rattle.std.proofs.Common.{sym, ap, ◌∙◌, append_assoc, append-nil, add-one, arith, length-append, length-drop, take-append-drop, length-take-le, take_at, drop-drop}
 use Rattle.std.proofs.Math.Seq.{append_snoc, drop-append-add}
 use Rattle.std.proofs.lemmas.List.{set_split}
 
@@ -51,20 +51,3 @@ put_then {piece} {more} {text} {after} {at = at} {end} p q =
       next = omega (arith, p.next, q.next);
       written = q.written ∙ rw (front, back, append_assoc (take at text) piece more);
     }
-
--- a piece that is copied byte by byte
-module _ (piece text : List ℕ) (at : ℕ) (room : at + length piece ≤ length text) where
-  pub copy_none : Put (take 0 piece) text at (at + 0) text
-  copy_none =
-      let e : at + 0 ≡ at = omega arith in
-      rw e (put_none text at (omega arith))
-
-  module _ (i : ℕ) (after : List ℕ) (p : Put (take i piece) text at (at + i) after) where
-    pub copy_more : i < length piece → Put (take (i + 1) piece) text at (at + (i + 1)) (set after (at + i) (get_or piece i 0))
-    copy_more l =
-        let size = put_size p in
-        let e : at + i + 1 ≡ at + (i + 1) = omega arith in
-        rw (add-one i, take-suc piece i 0, ← add-one i, ← e) (put_then p (put_one after (at + i) _ (omega arith)))
-
-    pub copy_all : length piece ≤ i → Put piece text at (at + i) after
-    copy_all l = rw take_all at p

@@ -1,31 +1,16 @@
 // Text in a lent buffer: bytes as they are, numbers in decimal, the line of a refusal and bytes in base sixteen (document 01, section
-// Worked table). Each call writes its piece from `at` on, where there is room for it, and answers where the next one goes.
+// Worked table). A page is the buffer with how far it is written. Each call writes its piece there, where there is room for it.
 #![tactic(auto)]
 
 ghost use Rattle.std.specs.Prelude.{[], ◌∷◌, ◌≡◌, ◌+◌, ◌*◌, ◌≤◌, ◌<◌, length};
-ghost use Rattle.text.specs.Put.{Put};
+ghost use Rattle.text.specs.Page.{Writes, WritesWithin};
 ghost use Rattle.text.specs.Text.{digit, decimal, signed, named, refusal, hex_digit, hex, hexes};
 
-// Writes the bytes of a piece.
-pub fn put(piece: &[u8], text: &mut [u8], at: usize) -> usize
-    requires { at + length piece.now ≤ length text.old }
-    ensures { Put piece.now text.old at result text.new }
-{
-    let mut i = 0;
-    while i < piece.len() {
-        text[at + i] = piece[i];
-        i += 1;
-    }
-    at + i
-}
-
-// Writes one byte.
-pub fn put_byte(byte: u8, text: &mut [u8], at: usize) -> usize
-    requires { at < length text.old }
-    ensures { Put (byte ∷ []) text.old at result text.new }
-{
-    text[at] = byte;
-    at + 1
+// A lent text that is written up to `end`, where the next piece goes.
+#[derive(Drop)]
+pub struct Page<'a> {
+    pub text: &'a mut [u8],
+    pub end: usize,
 }
 
 // A decimal digit.
@@ -33,82 +18,99 @@ fn digit(d: usize) -> u8
     requires { d < 10 }
     ensures { result ≡ digit d }
 {
-    48 + d as u8
-}
-
-// Writes a number in decimal, without leading zeros: what stands before its last digit, and that digit.
-pub fn put_decimal(n: usize, text: &mut [u8], at: usize) -> usize
-    requires { at + length (decimal n) ≤ length text.old }
-    ensures { Put (decimal n) text.old at result text.new }
-{
-    if n < 10 {
-        return put_byte(digit(n), text, at);
-    }
-    let last = put_decimal(n / 10, text, at);
-    put_byte(digit(n % 10), text, last)
-}
-
-// Writes a signed number of 32 bits, which is lent as its bits, with a minus sign where it is negative.
-pub fn put_signed(n: u32, text: &mut [u8], at: usize) -> usize
-    requires { at + length (signed n) ≤ length text.old }
-    ensures { Put (signed n) text.old at result text.new }
-{
-    let size = n as usize;
-    if size < 2147483648 {
-        return put_decimal(size, text, at);
-    }
-    let at = put_byte(b'-', text, at);
-    put_decimal(4294967296 - size, text, at)
-}
-
-// Writes what a number below 100,000 is, and the number.
-pub fn put_named(name: &[u8], n: usize, text: &mut [u8], at: usize) -> usize
-    requires { (n < 100000) × (at + length name.now + 5 ≤ length text.old) }
-    ensures { Put (named name.now n) text.old at result text.new × (result ≤ at + length name.now + 5) }
-{
-    let at = put(name, text, at);
-    put_decimal(n, text, at)
-}
-
-// Writes the line of a refusal by its number.
-pub fn put_refusal(number: u8, text: &mut [u8], at: usize) -> usize
-    requires { at + 14 ≤ length text.old }
-    ensures { Put (refusal number) text.old at result text.new }
-{
-    let at = put_named(b"refused ", number as usize, text, at);
-    put_byte(b'\n', text, at)
+    b'0' + d as u8
 }
 
 // A digit of base sixteen, with the letters in upper case.
+#[tactic(auto, unfolding(crate::specs::Text::hex_digit))]
 fn hex_digit(d: u8) -> u8
     requires { d < 16 }
     ensures { result ≡ hex_digit d }
 {
-    if d < 10 {
-        return 48 + d;
-    }
-    55 + d
+    if d < 10 { b'0' + d } else { b'A' - 10 + d }
 }
 
-// Writes a byte as two digits of base sixteen.
-fn put_hex(byte: u8, text: &mut [u8], at: usize) -> usize
-    requires { at + 2 ≤ length text.old }
-    ensures { Put (hex byte) text.old at result text.new }
-{
-    let at = put_byte(hex_digit(byte / 16), text, at);
-    put_byte(hex_digit(byte % 16), text, at)
-}
-
-// Writes each byte so.
-pub fn put_hexes(bytes: &[u8], text: &mut [u8], at: usize) -> usize
-    requires { at + 2 * length bytes.now ≤ length text.old }
-    ensures { Put (hexes bytes.now) text.old at result text.new × (result ≤ at + 2 * length bytes.now) }
-{
-    let mut end = at;
-    let mut i = 0;
-    while i < bytes.len() {
-        end = put_hex(bytes[i], text, end);
-        i += 1;
+impl Page<'_> {
+    // Writes the bytes of a piece.
+    pub fn put(&mut self, piece: &[u8])
+        requires { self.old.end + length piece.now ≤ length self.old.text.now }
+        ensures { Writes piece.now self.old self.new }
+    {
+        let end = self.end + piece.len();
+        self.text[self.end..end].copy_from_slice(piece);
+        self.end = end;
     }
-    end
+
+    // Writes one byte.
+    pub fn put_byte(&mut self, byte: u8)
+        requires { self.old.end < length self.old.text.now }
+        ensures { Writes (byte ∷ []) self.old self.new }
+    {
+        self.text[self.end] = byte;
+        self.end += 1;
+    }
+
+    // Writes a number in decimal, without leading zeros: what stands before its last digit, and that digit.
+    pub fn put_decimal(&mut self, n: usize)
+        requires { self.old.end + length (decimal n) ≤ length self.old.text.now }
+        ensures { Writes (decimal n) self.old self.new }
+    {
+        if n >= 10 {
+            self.put_decimal(n / 10);
+        }
+        self.put_byte(digit(n % 10));
+    }
+
+    // Writes a signed number of 32 bits, which is lent as its bits, with a minus sign where it is negative.
+    pub fn put_signed(&mut self, n: u32)
+        requires { self.old.end + length (signed n) ≤ length self.old.text.now }
+        ensures { Writes (signed n) self.old self.new }
+    {
+        let size = n as usize;
+        if size < 2147483648 {
+            self.put_decimal(size);
+            return;
+        }
+        self.put_byte(b'-');
+        self.put_decimal(4294967296 - size);
+    }
+
+    // Writes what a number below 100,000 is, and the number.
+    pub fn put_named(&mut self, name: &[u8], n: usize)
+        requires { (n < 100000) × (self.old.end + length name.now + 5 ≤ length self.old.text.now) }
+        ensures { WritesWithin (length name.now + 5) (named name.now n) self.old self.new }
+    {
+        self.put(name);
+        self.put_decimal(n);
+    }
+
+    // Writes the line of a refusal by its number.
+    #[tactic(auto, using(crate::specs::Page::writes_then), unfolding(crate::specs::Text::refusal))]
+    pub fn put_refusal(&mut self, number: u8)
+        requires { self.old.end + 14 ≤ length self.old.text.now }
+        ensures { Writes (refusal number) self.old self.new }
+    {
+        self.put_named(b"refused ", number as usize);
+        self.put_byte(b'\n');
+    }
+
+    // Writes a byte as two digits of base sixteen.
+    #[tactic(auto, using(crate::specs::Page::writes_then), unfolding(crate::specs::Text::hex))]
+    fn put_hex(&mut self, byte: u8)
+        requires { self.old.end + 2 ≤ length self.old.text.now }
+        ensures { Writes (hex byte) self.old self.new }
+    {
+        self.put_byte(hex_digit(byte / 16));
+        self.put_byte(hex_digit(byte % 16));
+    }
+
+    // Writes each byte so.
+    pub fn put_hexes(&mut self, bytes: &[u8])
+        requires { self.old.end + 2 * length bytes.now ≤ length self.old.text.now }
+        ensures { WritesWithin (2 * length bytes.now) (hexes bytes.now) self.old self.new }
+    {
+        for byte in bytes {
+            self.put_hex(*byte);
+        }
+    }
 }

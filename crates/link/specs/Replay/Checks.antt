@@ -1,17 +1,22 @@
 -- The checks that stand before a replay reads any frame: what is known once none has failed, and which calls none fails.
 -- Assumes nothing.
-use Rattle.std.specs.Prelude.{◌≡◌, refl, List, ℕ, ◌+◌, ◌*◌, ◌≤◌, ◌<◌, length}
+use Rattle.std.specs.Prelude.{◌≡◌, refl, false, List, ℕ, ◌+◌, ◌*◌, ◌≤◌, ◌<◌, length, T}
 use Rattle.std.proofs.Math.Path.{sym}
 use Rattle.std.proofs.Common.{◌∙◌, mul-le-mul_left, mul-div_cancel, arith}
 use Rattle.std.proofs.Math.Decide.{ℕ_discrete, dec_le}
 use Rattle.std.proofs.Math.Nat.{mul-le-mul_right, div-le_of_le-mul}
 use Rattle.algebra.specs.Tests.{passed}
 use Rattle.algebra.specs.Lists.{within}
-use Rattle.algebra.specs.Refusal.{passes, need_yes, need_zero}
+use Rattle.algebra.specs.Refusal.{passes, need, need_yes, need_no, need_zero}
 use Rattle.frame.specs.Frame.{area_size, slot_count, allowed_frame}
 use Rattle.frame.specs.Frame.Limits.{FrameAllowed, frame_kept, frame_yes, area_few, slots_few}
 use Rattle.frame.specs.declared.setting.Framing.{Framing}
 use Rattle.link.specs.Replay.{frames_in, replay_refusal}
+
+-- the number where a need fails, or one that comes after it
+need_or : {P : Type 0} (w : Dec P) (k : ℕ) {rest : ℕ} → (P → k ≡ rest) → k ≡ need w k rest
+need_or (yes p) k h = need_yes _ _ _ _ p (h p)
+need_or (no n) k h = need_no _ _ _ n
 
 pub record ReplayChecked (f : Framing) (slots marks areas maps results : List ℕ) : Type 0 where
   pub limits : FrameAllowed f
@@ -55,13 +60,38 @@ module _ (f : Framing) (slots marks areas maps results : List ℕ) where
       let limits = frame_kept f (passed _ a) in
       record { limits = limits; few = few_frames f slots l; slots_size = n; marks_size = m ∙ n; areas_size = k; maps_size = p ∙ n; results_size = q }
 
-  pub replay_passes : ReplayChecked f slots marks areas maps results → 0 ≡ replay_refusal f slots marks areas maps results
+-- what is wrong decides the number, one law for each return of the code
+module _ (f : Framing) (slots marks areas maps results : List ℕ) where
+  pub setting_wrong : allowed_frame f ≡ false → 1 ≡ replay_refusal f slots marks areas maps results
   unfolding replay_refusal
+  setting_wrong a = need_no _ _ _ (λ t. rw a at t)
+
+  module _ (limits : FrameAllowed f) where
+    allowed : T (allowed_frame f)
+    allowed = rw (← frame_yes f limits) tt
+
+    pub too_many : 64 * slot_count f < length slots → 1 ≡ replay_refusal f slots marks areas maps results
+    unfolding replay_refusal
+    too_many l = need_yes _ _ _ _ allowed (need_no _ _ _ (λ m. absurd (omega arith)))
+
+    pub lengths_wrong : length slots ≤ 64 * slot_count f
+        → (length slots ≡ frames_in f slots * slot_count f → length marks ≡ length slots → length areas ≡ frames_in f slots * area_size f → length maps ≡ length slots → length results ≡ frames_in f slots * 52 → ⊥)
+        → 2 ≡ replay_refusal f slots marks areas maps results
+    unfolding replay_refusal
+    lengths_wrong l wrong =
+        need_yes _ _ _ _ allowed (need_yes _ _ _ _ l
+        (need_or _ _ λ n. need_or _ _ λ m. need_or _ _ λ k. need_or _ _ λ p. need_or _ _ λ q. absurd (wrong n m k p q)))
+
+    pub lengths_right : length slots ≤ 64 * slot_count f → length slots ≡ frames_in f slots * slot_count f → length marks ≡ length slots → length areas ≡ frames_in f slots * area_size f → length maps ≡ length slots
+        → length results ≡ frames_in f slots * 52 → 0 ≡ replay_refusal f slots marks areas maps results
+    unfolding replay_refusal
+    lengths_right l n m k p q =
+        need_yes _ _ _ _ allowed (need_yes _ _ _ _ l (need_yes _ _ _ _ n (need_yes _ _ _ _ m (need_yes _ _ _ _ k (need_yes _ _ _ _ p (need_yes _ _ _ _ q refl))))))
+
+  pub replay_passes : ReplayChecked f slots marks areas maps results → 0 ≡ replay_refusal f slots marks areas maps results
   replay_passes c =
       let few : frames_in f slots * slot_count f ≤ 64 * slot_count f = mul-le-mul_right (slot_count f) c.few in
-      need_yes _ _ _ _ (rw (← frame_yes f c.limits) tt)
-      (need_yes _ _ _ _ (omega (arith, c.slots_size)) (need_yes _ _ _ _ c.slots_size
-      (need_yes _ _ _ _ (c.marks_size ∙ sym c.slots_size) (need_yes _ _ _ _ c.areas_size (need_yes _ _ _ _ (c.maps_size ∙ sym c.slots_size) (need_yes _ _ _ _ c.results_size refl))))))
+      lengths_right c.limits (omega (arith, c.slots_size)) c.slots_size (c.marks_size ∙ sym c.slots_size) c.areas_size (c.maps_size ∙ sym c.slots_size) c.results_size
 
 -- frame i's parts lie in what was lent
 pub record Lies (f : Framing) (slots marks areas maps results : List ℕ) (i : ℕ) : Type 0 where

@@ -1,6 +1,6 @@
 -- The turns of a replay: what is known once i frames are heard, and that the call's answers meet its promise.
 -- Assumes nothing.
-use Rattle.std.specs.Prelude.{◌≡◌, take, drop}
+use Rattle.std.specs.Prelude.{◌≡◌, Result, Ok, Err, take, drop}
 use Rattle.std.proofs.Math.Path.{refl, sym, ap}
 use Rattle.std.proofs.Common.{◌∙◌, mul-le-mul_right, add-one, arith, length-take, length-drop, drop_at}
 use mathlib.Core.List.{List, []}
@@ -10,13 +10,16 @@ use Rattle.algebra.specs.Lists.{joined, length_joined, part, put_part, Written, 
 use Rattle.algebra.specs.Refusal.{new, kept}
 use Rattle.frame.specs.Frame.{slot_count, area_size, receive_outcome}
 use Rattle.frame.specs.declared.setting.Framing.{Framing}
+use Rattle.frame.specs.declared.setting.ReceiveError.{ReceiveError}
 use Rattle.frame.specs.declared.setting.Received.{Received}
 use Rattle.record.specs.declared.Record.{Record}
 use Rattle.link.specs.Receiver.{HearOutcome, hear_outcome, hearing}
-use Rattle.link.specs.Replay.{frames_in, record_after, heard, result_of, replay_outcome, heard_in_turn, replay_refusal, replaying}
+use Rattle.link.specs.Replay.{frames_in, record_after, heard, result_of, replay_number, replay_outcome, heard_in_turn, replay_refusal, replaying}
 use Rattle.link.specs.Replay.Checks.{ReplayChecked, replay_passes, lies}
-use Rattle.link.specs.Replay.Result.{result_size}
+use Rattle.link.specs.Replay.Places.{result_size}
 use Rattle.link.specs.Promises.{Hears, Replays}
+use Rattle.link.specs.declared.replaying.ReplayError.{ReplayError}
+use Rattle.link.specs.declared.replaying.ReplayError.TheVariants.{BadSetting, BadLength}
 
 -- part i as the code lends it
 abbrev pub cut : ℕ → ℕ → List ℕ → List ℕ
@@ -65,7 +68,7 @@ module _ (before : Record) (f : Framing) (slots marks areas₀ maps₀ results�
     results_same = written_same _ _ _ i results h.results_done (omega (arith, c.results_size, h.turn))
 
     -- frame i comes next, with parts that are still as they were lent, and with the record that those before it left
-    pub replaying_more : i < frames_in f slots → (answer : Received) (next' : Record) (area map place : List ℕ)
+    pub replaying_more : i < frames_in f slots → (answer : Result Received ReceiveError) (next' : Record) (area map place : List ℕ)
         → length area ≡ length (cut (area_size f) i areas) → length map ≡ length (cut (slot_count f) i maps)
         → Hears next f (cut (slot_count f) i slots) (cut (slot_count f) i marks) (cut (area_size f) i areas) (cut (slot_count f) i maps) answer next' area map
         → place ≡ result_of (receive_outcome answer [] [])
@@ -86,19 +89,24 @@ module _ (before : Record) (f : Framing) (slots marks areas₀ maps₀ results�
         }
 
     -- all are heard
-    pub replaying_all : frames_in f slots ≤ i → Replays before f slots marks areas₀ maps₀ results₀ (record { number = 0; frames = frames_in f slots }) next areas maps results
+    pub replaying_all : frames_in f slots ≤ i → Replays before f slots marks areas₀ maps₀ results₀ (Ok (frames_in f slots)) next areas maps results
     unfolding replaying
     replaying_all past =
         let e : i ≡ frames_in f slots = omega (arith, h.turn) in
         let areas_all : areas ≡ joined i (λ j. (told j).frame.area) = written_all _ _ _ i areas h.areas_done (rw e c.areas_size) in
         let maps_all : maps ≡ joined i (λ j. (told j).frame.map) = written_all _ _ _ i maps h.maps_done (rw e c.maps_size) in
         let results_all : results ≡ joined i (λ j. result_of (told j).frame) = written_all _ _ _ i results h.results_done (rw e c.results_size) in
-        let all : replay_outcome (record { number = 0; frames = frames_in f slots }) next areas maps results ≡ heard_in_turn before f slots marks areas₀ maps₀ i =
+        let all : replay_outcome (Ok (frames_in f slots)) next areas maps results ≡ heard_in_turn before f slots marks areas₀ maps₀ i =
         λ t. record { number = 0; frames = sym e t; areas = areas_all t; maps = maps_all t; results = results_all t; next = h.noted t } in
         record { outcome = all ∙ ap (heard_in_turn before f slots marks areas₀ maps₀) e ∙ new _ _ _ (sym (replay_passes f slots marks areas₀ maps₀ results₀ c)) }
 
 -- the whole call is refused
-pub replay_refused : (before : Record) (f : Framing) (slots marks areas maps results : List ℕ) (k : ℕ) → k ≡ replay_refusal f slots marks areas maps results → 0 < k
-    → Replays before f slots marks areas maps results (record { number = k; frames = 0 }) before areas maps results
+refusal_some : (e : ReplayError) → 0 < replay_number {A = ℕ} (Err e)
+refusal_some BadSetting = omega arith
+refusal_some BadLength = omega arith
+
+pub replay_refused : (before : Record) (f : Framing) (slots marks areas maps results : List ℕ) (e : ReplayError) → replay_number {A = ℕ} (Err e) ≡ replay_refusal f slots marks areas maps results
+    → Replays before f slots marks areas maps results (Err e) before areas maps results
 unfolding replaying
-replay_refused before f slots marks areas maps results k e h = record { outcome = rw e (kept (replay_refusal f slots marks areas maps results) _ _ (omega arith)) }
+replay_refused before f slots marks areas maps results e h =
+    record { outcome = rw h (kept (replay_refusal f slots marks areas maps results) _ _ (omega (arith, refusal_some e))) }

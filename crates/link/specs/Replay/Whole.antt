@@ -3,7 +3,7 @@
 -- Assumes nothing.
 use Rattle.std.proofs.Math.Path.{◌≡◌, refl, ap}
 use Rattle.std.proofs.Common.{◌∙◌, not-suc-le-zero, arith, lt-ltb, le-ltb}
-use Rattle.std.specs.Prelude.{Bool, true, take, replicate, if◌then◌else◌}
+use Rattle.std.specs.Prelude.{Bool, true, ◌≢◌, Result, Ok, Err, take, replicate, if◌then◌else◌}
 use Rattle.std.proofs.Math.Bool.{false}
 use mathlib.Core.List.{List, []}
 use Rattle.std.proofs.Math.Option.{Option, some, none, get_or}
@@ -14,23 +14,24 @@ use Rattle.std.proofs.lemmas.List.{length-replicate}
 use Rattle.std.proofs.Math.Seq.{length-take-le}
 use Rattle.algebra.specs.Tests.{first_below}
 use Rattle.algebra.specs.Lists.{length_tabulate, length_joined}
-use Rattle.algebra.specs.Refusal.{new}
+use Rattle.algebra.specs.Refusal.{new, need_either}
 use Rattle.word.specs.Setting.{message_size}
 use Rattle.word.specs.Codeword.{in_reach}
 use Rattle.word.specs.Code.Laws.{corrected_some}
 use Rattle.word.specs.declared.Figures.{Figures}
 use Rattle.interleave.specs.Slots.{spread_rule}
-use Rattle.frame.specs.Frame.{word_setting, area_size, slot_count, is_none, received_word, received_marks, corrected_word, message_of, beyond, area_received, figures_received, map_received, ReceiveOutcome, receive_outcome, settled, decoded_frame, trailer_good, refused_with, two_at, receive_refusal, receiving}
+use Rattle.frame.specs.Frame.{word_setting, area_size, slot_count, is_none, received_word, received_marks, corrected_word, message_of, beyond, area_received, figures_received, map_received, ReceiveOutcome, receive_outcome, settled, decoded_frame, trailer_good, error_number, two_at, receive_refusal, receiving}
 use Rattle.frame.specs.Frame.Limits.{FrameAllowed}
 use Rattle.frame.specs.Checks.{receive_checked}
 use Rattle.frame.specs.Receiving.{settled_bad, settled_good, decoded_beyond, receive_refused}
 use Rattle.frame.specs.declared.setting.Framing.{Framing}
+use Rattle.frame.specs.declared.setting.ReceiveError.{ReceiveError}
+use Rattle.frame.specs.declared.setting.ReceiveError.TheVariants.{BadSetting, BadLength, BadMark, BeyondReach, BadTrailer}
 use Rattle.frame.specs.declared.setting.Received.{Received}
-use Rattle.frame.specs.declared.setting.Verdict.TheVariants.{Done}
 
 -- an outcome is an answer with an area and a map of these lengths
 pub record Whole (area_size_lem map_size : ℕ) (o : ReceiveOutcome) : Type 0 where
-  pub answer : Received
+  pub answer : Result Received ReceiveError
   pub area : List ℕ
   pub map : List ℕ
   pub told : receive_outcome answer area map ≡ o
@@ -89,21 +90,30 @@ module _ (figures : List Figures) (area map : List ℕ) (room : 4 ≤ length are
     where
       by_trailer : (good : Bool) → trailer_good (length area) area ≡ good → Whole (length area) (length map) (settled (length area) figures area map)
       by_trailer true e =
-          record { answer = record { verdict = Done; sequence = two_at area (length area - 4 + 2); back = two_at area (length area - 4); figures = figures }; area = area; map = map; told = settled_good figures area map room e _ _ refl refl; area_fits = refl; map_fits = refl }
+          record { answer = Ok (record { sequence = two_at area (length area - 4 + 2); back = two_at area (length area - 4); figures = figures }); area = area; map = map; told = settled_good figures area map room e _ _ refl refl; area_fits = refl; map_fits = refl }
       by_trailer false e =
-          record { answer = refused_with 5 0; area = replicate (length area) 0; map = replicate (length map) 0; told = settled_bad figures area map e; area_fits = length-replicate (length area) 0; map_fits = length-replicate (length map) 0 }
+          record { answer = Err BadTrailer; area = replicate (length area) 0; map = replicate (length map) 0; told = settled_bad figures area map e; area_fits = length-replicate (length area) 0; map_fits = length-replicate (length map) 0 }
 
 -- ---- the frame
 
 decoded_whole : (f : Framing) → FrameAllowed f → (slots marks : List ℕ) → Whole (area_size f) (slot_count f) (decoded_frame f slots marks)
 unfolding decoded_frame
 decoded_whole f a slots marks = elim (dec_lt (beyond f slots marks) f.depth) [
-  | yes l ↦ record { answer = refused_with 4 (beyond f slots marks); area = replicate (area_size f) 0; map = replicate (slot_count f) 0; told = decoded_beyond f slots marks _ refl l _ _ refl refl; area_fits = length-replicate (area_size f) 0; map_fits = length-replicate (slot_count f) 0 }
+  | yes l ↦ record { answer = Err (BeyondReach (beyond f slots marks)); area = replicate (area_size f) 0; map = replicate (slot_count f) 0; told = decoded_beyond f slots marks _ refl l _ _ refl refl; area_fits = length-replicate (area_size f) 0; map_fits = length-replicate (slot_count f) 0 }
   | no l ↦
       let size : length (area_received f slots marks) ≡ area_size f = area_received_lem f slots marks (omega arith) in
       rw (le-ltb (beyond f slots marks) f.depth (omega arith))
       (rw (size, map_received_lem f slots marks) at (settled_whole (figures_received f slots marks) (area_received f slots marks) (map_received f slots marks) (omega (arith, a.room))))
 ]
+
+-- a refusal by the checks is one of the code's
+some_error : (f : Framing) (slots marks area map : List ℕ) → receive_refusal f slots marks area map ≢ 0 → (e : ReceiveError) × (error_number e ≡ receive_refusal f slots marks area map)
+unfolding receive_refusal
+some_error f slots marks area map =
+    let named : ℕ → Type 0 = λ k. k ≢ 0 → (e : ReceiveError) × (error_number e ≡ k) in
+    need_either _ 1 _ named (λ n. (BadSetting, refl))
+    (need_either _ 2 _ named (λ n. (BadLength, refl)) (need_either _ 2 _ named (λ n. (BadLength, refl)) (need_either _ 2 _ named (λ n. (BadLength, refl))
+    (need_either _ 2 _ named (λ n. (BadLength, refl)) (need_either _ 3 0 named (λ n. (BadMark, refl)) (λ n. absurd (n refl)))))))
 
 pub receiving_whole : (f : Framing) (slots marks area map : List ℕ) → Whole (length area) (length map) (receiving f slots marks area map)
 unfolding receiving
@@ -111,5 +121,7 @@ receiving_whole f slots marks area map = elim (ℕ_discrete (receive_refusal f s
   | yes e ↦
       let c = receive_checked f slots marks area map e in
       rw (c.area_size_lem, c.map_size, ← new (receive_refusal f slots marks area map) _ _ e) (decoded_whole f c.limits slots marks)
-  | no n ↦ record { answer = refused_with (receive_refusal f slots marks area map) 0; area = area; map = map; told = (receive_refused f slots marks area map _ refl (omega arith)).outcome; area_fits = refl; map_fits = refl }
+  | no n ↦
+      let (e, h) = some_error f slots marks area map n in
+      record { answer = Err e; area = area; map = map; told = (receive_refused f slots marks area map e h).outcome; area_fits = refl; map_fits = refl }
 ]

@@ -1,41 +1,41 @@
 -- The lines of the text from their pieces, in the order in which they are written.
 -- Assumes nothing.
-use Rattle.std.specs.Prelude.{◌≡◌, List, ℕ, ◌+◌, ◌≤◌, length, get_or}
+use Rattle.std.specs.Prelude.{List, ℕ, ◌+◌, ◌*◌, ◌≤◌, length, get_or}
+use Rattle.std.proofs.Common.{arith}
 use Rattle.word.specs.Answers.{no_figures}
 use Rattle.word.specs.declared.Figures.{Figures}
 use Rattle.algebra.specs.Lists.{joined, joined_more}
 use Rattle.text.specs.Text.{bytes, named, hexes}
-use Rattle.text.specs.Put.{Put, put_none, put_then}
+use Rattle.text.specs.Page.{Writes, WritesWithin, writes_none, writes_then}
+use Rattle.text.specs.declared.Page.{Page}
 use Rattle.reader.specs.Lines.{newline, first_line, word_line, word_lines, slots_line, frame_text}
 
-module _ {text t₁ t₂ left : List ℕ} {at a₁ a₂ end : ℕ} where
-  pub put_opening : (sequence size : ℕ) → Put (named (bytes "frame ") sequence) text at a₁ t₁ → Put (named (bytes " payload ") size) t₁ a₁ a₂ t₂
-      → Put newline t₂ a₂ end left → Put (first_line sequence size) text at end left
+module _ {before p₁ p₂ after : Page} where
+  pub put_opening : (sequence size : ℕ) → Writes (named (bytes "frame ") sequence) before p₁ → Writes (named (bytes " payload ") size) p₁ p₂
+      → Writes newline p₂ after → Writes (first_line sequence size) before after
   unfolding first_line
-  put_opening sequence size p q r = put_then (put_then p q) r
+  put_opening sequence size p q r = writes_then (writes_then p q) r
 
-module _ {text t₁ t₂ t₃ t₄ left : List ℕ} {at a₁ a₂ a₃ a₄ end : ℕ} where
-  pub put_accepted : (depth sequence : ℕ) (figures : List Figures) (payload map : List ℕ) → Put (first_line sequence (length payload)) text at a₁ t₁
-      → Put (word_lines depth figures) t₁ a₁ a₂ t₂ → Put (hexes payload) t₂ a₂ a₃ t₃ → Put newline t₃ a₃ a₄ t₄ → Put (slots_line map) t₄ a₄ end left
-      → Put (frame_text depth sequence figures payload map) text at end left
+module _ {before p₁ p₂ p₃ p₄ after : Page} where
+  pub put_accepted : (depth sequence : ℕ) (figures : List Figures) (payload map : List ℕ) → Writes (first_line sequence (length payload)) before p₁
+      → Writes (word_lines depth figures) p₁ p₂ → Writes (hexes payload) p₂ p₃ → Writes newline p₃ p₄ → Writes (slots_line map) p₄ after
+      → Writes (frame_text depth sequence figures payload map) before after
   unfolding frame_text
-  put_accepted depth sequence figures payload map p q r s u = put_then (put_then (put_then (put_then p q) r) s) u
+  put_accepted depth sequence figures payload map p q r s u = writes_then (writes_then (writes_then (writes_then p q) r) s) u
 
--- e, f and k are the word's figures
-module _ {text t₁ t₂ t₃ t₄ left : List ℕ} {at a₁ a₂ a₃ a₄ end : ℕ} where
-  pub put_figures : (w : ℕ) (own : Figures) (e f k : ℕ) → e ≡ own.errors → f ≡ own.marked → k ≡ own.bits
-      → Put (named (bytes "word ") w) text at a₁ t₁ → Put (named (bytes " errors ") e) t₁ a₁ a₂ t₂ → Put (named (bytes " marked ") f) t₂ a₂ a₃ t₃
-      → Put (named (bytes " bits ") k) t₃ a₃ a₄ t₄ → Put newline t₄ a₄ end left → Put (word_line w own) text at end left
+  pub put_figures : (w : ℕ) (own : Figures) → Writes (named (bytes "word ") w) before p₁ → Writes (named (bytes " errors ") own.errors) p₁ p₂
+      → Writes (named (bytes " marked ") own.marked) p₂ p₃ → Writes (named (bytes " bits ") own.bits) p₃ p₄ → Writes newline p₄ after
+      → Writes (word_line w own) before after
   unfolding word_line
-  put_figures w own e f k x y z p q r s u = rw (← x, ← y, ← z) (put_then (put_then (put_then (put_then p q) r) s) u)
+  put_figures w own p q r s u = writes_then (writes_then (writes_then (writes_then p q) r) s) u
 
 -- the words one after the other
-module _ (figures : List Figures) (text : List ℕ) (at : ℕ) where
-  pub words_begun : at ≤ length text → Put (word_lines 0 figures) text at at text
+module _ (figures : List Figures) where
+  pub words_begun : (page : Page) → page.end ≤ length page.text.now → WritesWithin (48 * 0) (word_lines 0 figures) page page
   unfolding word_lines joined
-  words_begun room = put_none text at room
+  words_begun page room = record { whole = writes_none page room; within = omega arith }
 
-  pub words_on : (w end : ℕ) (after : List ℕ) (last : ℕ) (left : List ℕ) → Put (word_lines w figures) text at end after
-      → Put (word_line w (get_or figures w no_figures)) after end last left → Put (word_lines (w + 1) figures) text at last left
+  pub words_on : (w : ℕ) {before between after : Page} → WritesWithin (48 * w) (word_lines w figures) before between
+      → WritesWithin 48 (word_line w (get_or figures w no_figures)) between after → WritesWithin (48 * (w + 1)) (word_lines (w + 1) figures) before after
   unfolding word_lines
-  words_on w end after last left p q = rw joined_more (put_then p q)
+  words_on w p q = record { whole = rw joined_more (writes_then p.whole q.whole); within = omega (arith, p.within, q.within) }

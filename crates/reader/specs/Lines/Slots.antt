@@ -1,30 +1,30 @@
 -- The line of the changed slots as it is written, slot by slot.
 -- Assumes nothing.
-use Rattle.std.specs.Prelude.{◌≡◌, Bool, true, false, List, [], ◌∷◌, ◌++◌, ℕ, ◌+◌, ◌≤◌, ◌<◌, eqb, length, get_or, if◌then◌else◌}
+use Rattle.std.specs.Prelude.{◌≡◌, Bool, true, false, List, [], ◌∷◌, ◌++◌, ℕ, ◌+◌, ◌*◌, ◌≤◌, ◌<◌, eqb, length, get_or, if◌then◌else◌}
 use Rattle.std.proofs.Common.{append_assoc, append-nil, arith, eq-eqb, ne_eqb}
 use Rattle.std.proofs.Math.ListN.{length-append}
 use Rattle.algebra.specs.Lists.{joined, joined_more}
-use Rattle.text.specs.Put.{Put, put_none, put_then}
+use Rattle.text.specs.Page.{Writes, WritesWithin, writes_none, writes_then, writes_end}
+use Rattle.text.specs.declared.Page.{Page}
 use Rattle.text.specs.Text.{bytes, decimal}
 use Rattle.text.specs.Text.Decimal.{decimal_some}
 use Rattle.reader.specs.Lines.{newline, changed_below, blanked, spaced, slots_line, slot_text}
 
 -- ---- what one slot adds
 
-module _ (mark : ℕ) (first : Bool) (slot : ℕ) {text : List ℕ} {at : ℕ} where
-  pub slot_same : mark ≡ 0 → at ≤ length text → Put (slot_text mark first slot) text at at text
+module _ (mark : ℕ) (first : Bool) (slot : ℕ) where
+  pub slot_same : (page : Page) → mark ≡ 0 → page.end ≤ length page.text.now → Writes (slot_text mark first slot) page page
   unfolding slot_text
-  slot_same e l = rw (eq-eqb mark 0 e) (put_none text at l)
+  slot_same page e l = rw (eq-eqb mark 0 e) (writes_none page l)
 
-  module _ (changed : mark ≡ 0 → ⊥) {last : ℕ} {left : List ℕ} where
-    pub slot_first : first ≡ true → Put (decimal slot) text at last left → Put (slot_text mark first slot) text at last left
+  module _ (changed : mark ≡ 0 → ⊥) {turned after : Page} (q : Writes (decimal slot) turned after) {before : Page} where
+    pub slot_first : first ≡ true → turned ≡ before → Writes (slot_text mark first slot) before after
     unfolding slot_text
-    slot_first e p = rw (ne_eqb mark 0 changed, e) p
+    slot_first e s = rw (ne_eqb mark 0 changed, e, ← s) q
 
-    pub slot_later : {end : ℕ} {after : List ℕ} → first ≡ false → Put (bytes " ") text at end after → Put (decimal slot) after end last left
-        → Put (slot_text mark first slot) text at last left
+    pub slot_later : {between : Page} → first ≡ false → Writes (bytes " ") before between → turned ≡ between → Writes (slot_text mark first slot) before after
     unfolding slot_text
-    slot_later e p q = rw (ne_eqb mark 0 changed, e) (put_then p q)
+    slot_later e p s = rw (ne_eqb mark 0 changed, e) (writes_then p (rw s at q))
 
 -- ---- one number more
 
@@ -59,16 +59,22 @@ spaced_more l at mark slot = go (eqb mark 0) l
 
 -- ---- the slots one after the other
 
-module _ (map text : List ℕ) (at : ℕ) where
-  pub slots_begun : at ≤ length text → Put (spaced (changed_below 0 map)) text at at text
+module _ (map : List ℕ) where
+  pub slots_begun : (page : Page) → page.end ≤ length page.text.now → WritesWithin (5 * 0) (spaced (changed_below 0 map)) page page
   unfolding spaced changed_below joined
-  slots_begun room = put_none text at room
+  slots_begun page room = record { whole = writes_none page room; within = omega arith }
 
-  module _ (i end : ℕ) (after : List ℕ) (last : ℕ) (left : List ℕ) (p : Put (spaced (changed_below i map)) text at end after) where
-    pub slots_on : Put (slot_text (get_or map i 0) (eqb end at) i) after end last left → Put (spaced (changed_below (i + 1) map)) text at last left
+  module _ (i : ℕ) {before between after : Page} (p : WritesWithin (5 * i) (spaced (changed_below i map)) before between) where
+    pub slots_on : WritesWithin 5 (slot_text (get_or map i 0) (eqb between.end before.end) i) between after
+        → WritesWithin (5 * (i + 1)) (spaced (changed_below (i + 1) map)) before after
     unfolding changed_below
-    slots_on q = rw (joined_more, spaced_more _ at, ← p.next) (put_then p q)
+    slots_on q = record {
+      whole = rw (joined_more, spaced_more _ before.end, ← writes_end p.whole) (writes_then p.whole q.whole);
+      within = omega (arith, p.within, q.within);
+    }
 
-    pub slots_done : length map ≡ i → Put newline after end last left → Put (slots_line map) text at last left
+    pub slots_done : length map ≤ i → i ≤ length map → Writes newline between after → WritesWithin (5 * length map + 1) (slots_line map) before after
     unfolding slots_line
-    slots_done e q = rw e (put_then p q)
+    slots_done l m q =
+        let e : length map ≡ i = omega arith in
+        record { whole = rw e (writes_then p.whole q); within = omega (arith, p.within, writes_end q) }

@@ -12,7 +12,8 @@ use Rattle.frame.specs.Checks.{receive_setting}
 use Rattle.frame.specs.Receiving.{receiving_refused}
 use Rattle.frame.specs.declared.setting.Framing.{Framing}
 use Rattle.frame.specs.declared.setting.Received.{Received}
-use Rattle.text.specs.Put.{Put}
+use Rattle.text.specs.Page.{Writes}
+use Rattle.text.specs.declared.Page.{Page}
 use Rattle.text.specs.Text.{refusal}
 use Rattle.reader.specs.Head.{framing_of}
 use Rattle.reader.specs.Lines.{frame_text}
@@ -20,13 +21,13 @@ use Rattle.reader.specs.Spoken.{blank, answer_to, told, spoken}
 
 -- ---- what is said of an answer
 
-module _ (depth : ℕ) (r : Received) (area map : List ℕ) (o : ReceiveOutcome) (e : receive_outcome r area map ≡ o) (k : ℕ) (n : k ≡ number_of r.verdict) {text after : List ℕ} {at last : ℕ} where
-  pub told_refused : (k ≡ 0 → ⊥) → Put (refusal k) text at last after → Put (told depth o) text at last after
+module _ (depth : ℕ) (r : Received) (area map : List ℕ) (o : ReceiveOutcome) (e : receive_outcome r area map ≡ o) (k : ℕ) (n : k ≡ number_of r.verdict) {before after : Page} where
+  pub told_refused : (k ≡ 0 → ⊥) → Writes (refusal k) before after → Writes (told depth o) before after
   unfolding told
   told_refused z p = rw (← e, ← n, ne_eqb k 0 z) p
 
-  pub told_accepted : k ≡ 0 → (payload : List ℕ) → payload ≡ payload_of r area → Put (frame_text depth r.sequence r.figures payload map) text at last after
-      → Put (told depth o) text at last after
+  pub told_accepted : k ≡ 0 → (payload : List ℕ) → payload ≡ payload_of r area → Writes (frame_text depth r.sequence r.figures payload map) before after
+      → Writes (told depth o) before after
   unfolding told
   told_accepted z payload h p = rw (← e, ← n, z, ← h) p
 

@@ -1,6 +1,9 @@
 -- `hear_masts` meets its contract: the answer is what receiving both promises, and the record is what noting it promises.
+use mathlib.Core.Path.{ap}
+use Rattle.frame.specs.declared.setting.Received.{Received}
 use Rattle.link.specs.Promises.{masts_received_and_noted}
 use Rattle.link.proofs.masts.hear_masts.Goals as goal
 
 pub returns : goal.returns
-returns c = masts_received_and_noted c.receive_masts-answer.ensures c.note-next.ensures
+returns c =
+    masts_received_and_noted c.receive_masts-answer.ensures c.masts_number.ensures (ap (λ (r : Received). r.sequence) c.chosen_of.ensures) c.note-next.ensures

@@ -4,4 +4,4 @@ use Rattle.reader.proofs.lines.put_frame.Goals as goal
 
 pub returns : goal.returns
 returns c =
-    put_accepted _ _ _ _ _ c.put_first-at.ensures.0 c.put_words-at.ensures.0 c.put_hexes-at.ensures.0 c.put_byte-at.ensures c.put_slots.ensures.0
+    put_accepted _ _ _ _ _ c.put_first.ensures.whole c.put_words.ensures.whole c.put_hexes.ensures.whole c.put_byte.ensures c.put_slots.ensures.whole

@@ -1,24 +1,6 @@
--- `reading::report` meets its contract: each return is one law of the text, and the text is written from the front.
-use native.Mathlib.Omega.{arith}
-use mathlib.Core.Path.{sym, ◌∙◌}
-use borrow.Author.Tests.{not-true, not-false}
-use Rattle.frame.specs.Frame.Limits.{frame_kept}
+-- `reading::report` meets its contract: the page is the lent text, written from the front.
 use Rattle.reader.specs.Promises.{put_reports}
-use Rattle.reader.specs.Spoken.Answers.{spoken_short, spoken_setting, spoken_answer}
 use Rattle.reader.proofs.reading.report.Goals as goal
 
-pub returns-then-input-lt4 : goal.returns-then-input-lt4
-returns-then-input-lt4 c =
-    put_reports (rw (spoken_short c.args.input.now (omega arith)) at c.put_refusal.ensures)
-
-pub returns-then-not-is_allowed : goal.returns-then-not-is_allowed
-returns-then-not-is_allowed c =
-    let refused = rw c.framing-f.ensures at (sym c.is_allowed.ensures ∙ not-true _ c.if-not-is_allowed.true-raw) in
-    put_reports (rw (spoken_setting c.args.input.now (omega arith) refused) at c.put_refusal-then-not-is_allowed.ensures)
-
-pub put_unmarked-requires : goal.put_unmarked-requires
-put_unmarked-requires c = (frame_kept _ (sym c.is_allowed.ensures ∙ not-false _ c.if-not-is_allowed.false-raw), omega arith)
-
 pub returns : goal.returns
-returns c =
-    put_reports (rw (c.framing-f.ensures, spoken_answer c.args.input.now (omega arith)) at c.put_unmarked.ensures)
+returns c = put_reports c.put_spoken.ensures.written
