@@ -1,8 +1,8 @@
 -- The calls on a frame for C (document 01, Block interleaver and frame; document 02, No. 9): the setting, what is seen of an answer, what each call promises, that
 -- the place seen is the payload's, and that no call has a second answer.
 -- Assumes nothing.
-use Rattle.std.specs.Prelude.{◌≡◌, refl, Result, Ok, Err, Option, Bool, ◌≢◌, List, ℕ, ◌+◌, ◌-◌, eqb, take, drop, if◌then◌else◌}
-use Rattle.std.proofs.Common.{ap, ◌∙◌, arith, length-drop, ne_eqb, le-leb}
+use Rattle.std.specs.Prelude.{◌≡◌, refl, Result, Ok, Err, Option, Bool, List, ℕ, ◌+◌, ◌-◌, eqb, take, drop, if◌then◌else◌}
+use Rattle.std.proofs.Common.{ap, ◌∙◌, arith, length-drop, le-leb}
 use Rattle.std.proofs.Math.Decide.{dec_le}
 use Rattle.std.proofs.Math.ListN.{length, length-take}
 use Rattle.std.proofs.lemmas.Bool.{lt-leb}

@@ -1,12 +1,10 @@
 -- The receiver's whole call for C (document 01, Receiver's record): what is seen of record and answer after a frame, what hearing promises,
 -- and that no call has a second answer.
 -- Assumes nothing.
-use Rattle.std.specs.Prelude.{◌≡◌, Result, List, ℕ}
+use Rattle.std.specs.Prelude.{◌≡◌, List, ℕ}
 use Rattle.std.proofs.Common.{ap, ap₂}
 use Rattle.record.specs.declared.Record.{Record}
 use Rattle.link.specs.Promises.{Hears, hears_once}
-use Rattle.frame.specs.declared.setting.ReceiveError.{ReceiveError}
-use Rattle.frame.specs.declared.setting.Received.{Received}
 use Rattle.link.specs.declared.hearing.Heard.{Heard}
 use Rattle.radio.specs.Shown.{Shows, shown_once}
 use Rattle.radio.specs.Frames.{framing_of, frame_seen}

@@ -2,7 +2,7 @@
 -- and that no call has a second answer.
 -- Assumes nothing.
 use Rattle.std.specs.Prelude.{◌≡◌, refl, Option, Some, None, Result, Ok, Err, List, [], ℕ, length, replicate, take, drop}
-use Rattle.std.proofs.Common.{ap, ap₂}
+use Rattle.std.proofs.Common.{ap₂}
 use Rattle.word.specs.Answers.{no_figures}
 use Rattle.record.specs.declared.Record.{Record}
 use Rattle.link.specs.Masts.{Copy, Left, mast_of, masts_number, masts_word, chosen_of, payload_of_used}

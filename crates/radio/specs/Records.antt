@@ -1,8 +1,8 @@
 -- The record's calls for C (document 01, Receiver's record): the record as C lends it, what is seen of the one after a frame, what noting
 -- promises, and that no call has a second answer.
 -- Assumes nothing.
-use Rattle.std.specs.Prelude.{◌≡◌, refl, Bool, false, not, ℕ, zero, suc, eqb, if◌then◌else◌}
-use Rattle.std.proofs.Common.{sym, ne_eqb}
+use Rattle.std.specs.Prelude.{◌≡◌, refl, Bool, not, ℕ, eqb, if◌then◌else◌}
+use Rattle.std.proofs.Common.{ne_eqb}
 use Rattle.std.proofs.Math.Decide.{ℕ_discrete}
 use Rattle.record.specs.Memory.{unseen_in}
 use Rattle.record.specs.Record.{fresh_record, standing}
@@ -71,8 +71,7 @@ fresh_lent_lem = refl
 
 flag_stays : (flag : ℕ) → flag_after flag (not (eqb flag 0)) ≡ flag
 unfolding flag_after
-flag_stays zero = refl
-flag_stays (suc k) = refl
+flag_stays flag = elim (ℕ_discrete flag 0) [ yes z ↦ rw z | no n ↦ rw (ne_eqb flag 0 n) ]
 
 -- a record that is left alone is left alone to the byte
 pub lent_stays : (h : LentRecord) → record_seen h (record_of h) ≡ h

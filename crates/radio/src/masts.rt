@@ -40,6 +40,7 @@ fn two_frames() -> FrameAnswer
 }
 
 // The answer as C sees it, with the areas that were left: that of the copy that is used, as a frame's answer.
+#[tactic(auto, unfolding(crate::specs::Frames::start_of, frame::specs::Frame::payload_of))]
 fn chosen_answer(t: Result<Chosen, MastsError>, first: &[u8], second: &[u8]) -> ChosenAnswer
     ensures { result ≡ chosen_seen first.now second.now t }
 {
