@@ -1,10 +1,11 @@
 -- A morning's frames for C (document 02, No. 2): what is seen of record and answer, what the calls promise, and that no call has a second answer.
 -- Assumes nothing.
-use Rattle.std.specs.Prelude.{◌≡◌, refl, List, ℕ}
+use Rattle.std.specs.Prelude.{◌≡◌, refl, Result, List, ℕ}
 use Rattle.std.proofs.Common.{ap₂}
 use Rattle.record.specs.declared.Record.{Record}
+use Rattle.link.specs.Replay.{replay_number, frames_of}
 use Rattle.link.specs.Promises.{Replays, replays_once}
-use Rattle.link.specs.declared.replaying.Replayed.{Replayed}
+use Rattle.link.specs.declared.replaying.ReplayError.{ReplayError}
 use Rattle.link.specs.declared.replaying.ReplayHeard.{ReplayHeard}
 use Rattle.radio.specs.Shown.{Shows, shown_once}
 use Rattle.radio.specs.Frames.{framing_of}
@@ -14,8 +15,8 @@ use Rattle.radio.specs.declared.records.LentRecord.{LentRecord}
 use Rattle.radio.specs.declared.replaying.ReplayedAnswer.{ReplayedAnswer}
 use Rattle.radio.specs.declared.replaying.ReplayAnswer.{ReplayAnswer}
 
-abbrev pub replayed_seen : Replayed → ReplayedAnswer
-replayed_seen t = record { answer = t.number; frames = t.frames }
+abbrev pub replayed_seen : Result ℕ ReplayError → ReplayedAnswer
+replayed_seen t = record { answer = replay_number t; frames = frames_of t }
 
 -- record and answer after the frames, with the record that was lent
 abbrev pub both_replayed_seen : LentRecord → ReplayedAnswer → ReplayAnswer
@@ -34,4 +35,4 @@ pub replay_once : (h : LentRecord) (s : FrameSetting) (slots marks areas maps re
     → Replay h s slots marks areas maps results r x x' x'' → Replay h s slots marks areas maps results q y y' y'' → (r ≡ q) × (x ≡ y) × (x' ≡ y') × (x'' ≡ y'')
 replay_once h s slots marks areas maps results r q x y x' y' x'' y'' p u =
     let (a, n, l, m, o) = replays_once p.promised u.promised in
-    (shown_once p u refl (ap₂ (λ (k : Record) (t : Replayed). record { next = k; answer = t }) n a), l, m, o)
+    (shown_once p u refl (ap₂ (λ (k : Record) (t : Result ℕ ReplayError). record { next = k; answer = t }) n a), l, m, o)
