@@ -1,6 +1,6 @@
 -- The register and its table in one word, for at most eight check symbols: the second word, and the second table, are zero.
 -- Assumes nothing.
-use Rattle.std.specs.Prelude.{◌≡◌, refl, Bool, true, false, List, ◌∷◌, ℕ, zero, suc, ◌+◌, ◌-◌, ◌*◌, ◌/◌, ◌%◌, ◌^◌, ◌<◌, ◌≤◌, replicate, set}
+use Rattle.std.specs.Prelude.{◌≡◌, refl, Bool, true, List, ◌∷◌, ℕ, zero, suc, ◌+◌, ◌-◌, ◌*◌, ◌/◌, ◌%◌, ◌^◌, ◌<◌, ◌≤◌, replicate, set}
 use Rattle.std.proofs.Common.{sym, ap, ◌∙◌, arith, pow-add, div-one}
 use Rattle.std.specs.Int.Bits.{bit_xor}
 use Rattle.std.proofs.Math.ListN.{get_or-eq_default}
@@ -29,21 +29,6 @@ pub record Unused (alone : Bool) (highs : List ℕ) : Type 0 where
 pub record Enough (alone : Bool) (r : ℕ) : Type 0 where
   pub few : alone ≡ true → r ≤ 8
 
-differ : {P : Type 0} → false ≡ true → P
-differ {P} e = absurd (let z : ◌≡◌ {A = ℕ} 0 1 = cc in omega arith)
-
-pub two_words : (x : ℕ) → Alone false x
-two_words x = record { zero_high = λ e. differ e }
-
-pub two_used : (highs : List ℕ) → Unused false highs
-two_used highs = record { zeros_high = λ e. differ e }
-
-pub two_enough : (r : ℕ) → Enough false r
-two_enough r = record { few = λ e. differ e }
-
-pub one_enough : (alone : Bool) (r : ℕ) → r ≤ 8 → Enough alone r
-one_enough alone r l = record { few = λ e. l }
-
 pub alone_zero : (alone : Bool) (x : ℕ) → x ≡ 0 → Alone alone x
 alone_zero alone x e = record { zero_high = λ _. e }
 
@@ -64,17 +49,10 @@ set_zero (suc n) (suc k) = ap (λ (w : List ℕ). 0 ∷ w) (set_zero n k)
 pub unused_set : (alone : Bool) (highs : List ℕ) (k x : ℕ) → Unused alone highs → Alone alone x → Unused alone (set highs k x)
 unused_set alone highs k x h a = record { zeros_high = λ one. rw (h.zeros_high one, a.zero_high one) (set_zero 8 k) }
 
-pub unused_same : (highs : List ℕ) (k x : ℕ) → Unused true highs → Alone true x → highs ≡ set highs k x
-unused_same highs k x h a = h.zeros_high refl ∙ sym ((unused_set true highs k x h a).zeros_high refl)
-
 pub unused_at : (highs : List ℕ) (k : ℕ) → Unused true highs → 0 ≡ at highs k
 unused_at highs k h = rw (h.zeros_high refl) (sym ((zeros 8).each k))
 
 -- ---- a row, and the polynomial, fit one word
-
-pub whole_one : (a : ℕ) → whole a 0 ≡ a
-unfolding whole
-whole_one a = omega arith
 
 pub row_one : (low : List ℕ) (j : ℕ) → whole (at low j) 0 ≡ whole (at low j) (at none j)
 row_one low j = ap (whole (at low j)) (sym ((zeros 128).each j))

@@ -18,12 +18,6 @@ pub record Prepared (m b r : ℕ) (low high : List ℕ) : Type 0 where
 pub record ChecksBy (r : ℕ) (low high message result : List ℕ) : Type 0 where
   pub each : (m b : ℕ) → Prepared m b r low high → Checks m b r message result
 
-pub prepared_short : (m b r : ℕ) (low high : List ℕ) → r ≤ 8 → Rows 4 m (divisor m b r) low none → Prepared m b r low high
-prepared_short m b r low high l rows = record { few = omega arith; alone = λ _. rows; both = λ h. absurd (omega arith) }
-
-pub prepared_long : (m b r : ℕ) (low high : List ℕ) → r ≤ 16 → 8 < r → Rows 4 m (divisor m b r) low high → Prepared m b r low high
-prepared_long m b r low high l h rows = record { few = l; alone = λ k. absurd (omega arith); both = λ _. rows }
-
 pub by_short : (r : ℕ) (low high message : List ℕ) (x y : ℕ) → r ≤ 8 → Divided low none message (length message) x y → ChecksBy r low high message (bytes x y)
 by_short r low high message x y l d = record { each = λ m b p. divided_all m b r low none message (length message) x y p.few (p.alone l) (omega arith) d }
 

@@ -14,23 +14,17 @@ pub fn generator(m: usize, b: usize, r: usize) -> Pair
     requires { (b ≤ 1) × (r ≤ 16) }
     ensures { bytes result.low result.high ≡ divisor m b r }
 {
-    if m == 8 {
-        if b == 0 {
-            if r == 16 {
-                return Pair {
-                    low: 0x081ed144bd680d3b,
-                    high: 0x3b243262e52941a3,
-                };
-            }
-            if r == 4 {
-                return Pair {
-                    low: 0x4078360f,
-                    high: 0,
-                };
-            }
-        }
+    match (m, b, r) {
+        (8, 0, 16) => Pair {
+            low: 0x081ed144bd680d3b,
+            high: 0x3b243262e52941a3,
+        },
+        (8, 0, 4) => Pair {
+            low: 0x4078360f,
+            high: 0,
+        },
+        _ => grown(m, b, r),
     }
-    grown(m, b, r)
 }
 
 // The same by one root after the other. The doubles of a root are the roots to come.

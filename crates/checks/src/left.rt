@@ -11,9 +11,7 @@ pub fn padded(symbols: &[u8]) -> [u8; 16]
     ensures { Padded symbols.now (length symbols.now) result }
 {
     let mut all = [0u8; 16];
-    for i in 0..symbols.len() {
-        all[i] = symbols[i];
-    }
+    all[..symbols.len()].copy_from_slice(symbols);
     all
 }
 

@@ -1,4 +1,5 @@
-// The register: what a message leaves when it is divided by the generator, four symbols a turn.
+// The register: what a message leaves when it is divided by the generator, four symbols a turn. A table says whether one word holds it or two,
+// and symbols how four of them are read; each pair of the two has a body of its own.
 ghost use Rattle.std.specs.Prelude.{◌≡◌, ◌*◌, ◌/◌, ◌%◌, ◌<◌, length};
 ghost use Rattle.std.specs.Int.Bits.{bit_xor};
 ghost use Rattle.algebra.specs.Bytes.{whole};

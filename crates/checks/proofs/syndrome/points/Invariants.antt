@@ -4,5 +4,5 @@ use Rattle.algebra.specs.Lists.{Filled}
 use Rattle.checks.specs.Roots.{root}
 use Rattle.checks.proofs.syndrome.points.Given as goal
 
-abbrev pub invariant-loop-j : goal.invariant-loop-j
-invariant-loop-j l = (l.x ≡ root l.m l.b l.j) × Filled 16 (root l.m l.b) l.j l.list
+abbrev pub invariant-loop-place : goal.invariant-loop-place
+invariant-loop-place l = (l.x ≡ root l.m l.b l.place-index) × Filled 16 (root l.m l.b) l.place-index l.place-items
