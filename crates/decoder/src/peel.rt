@@ -65,8 +65,8 @@ impl<'a> Listing<'a> {
         ensures { PeeledListed self.now.m self.now.n self.now.places self.now.count skip sums result }
     {
         let mut rest = sums;
-        for s in 0..self.count {
-            let i = usize::from(self.places[s]);
+        for place in &self.places[..self.count] {
+            let i = usize::from(*place);
             if i != skip {
                 let peeled = peel(self.m, rest, self.locators[i]);
                 rest = peeled;
@@ -81,8 +81,8 @@ impl<'a> Listing<'a> {
         ensures { Distant self.now.m self.now.n self.now.places self.now.count p start result }
     {
         let mut far = start;
-        for s in 0..self.count {
-            let i = usize::from(self.places[s]);
+        for place in &self.places[..self.count] {
+            let i = usize::from(*place);
             if i != p {
                 far = times(self.m, far, self.locators[p] ^ self.locators[i]);
             }
