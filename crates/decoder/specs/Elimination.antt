@@ -1,12 +1,13 @@
 -- The elimination without division, in place: the rows of v at 0, 9, 18, .. are vectors, and flags say which are alive. Each window costs at most one
 -- vector its life, so of t + 1 vectors one is left after t windows.
 -- Assumes nothing.
-use Rattle.std.specs.Prelude.{◌≡◌, refl, ◌≢◌, List, ℕ, suc, ◌+◌, ◌*◌, ◌%◌, ◌^◌, ◌≤◌, ◌<◌, T, ltb, length, set}
+use Rattle.std.specs.Prelude.{◌≡◌, refl, ◌≢◌, List, ℕ, suc, ◌+◌, ◌*◌, ◌%◌, ◌^◌, ◌≤◌, ◌<◌, T, length, set, replicate}
+use Rattle.std.proofs.lemmas.List.{get_or-replicate}
 use Rattle.std.proofs.Math.Path.{sym}
-use Rattle.std.proofs.Common.{◌∙◌, not-suc-le-zero, mod-eq_of_lt, add-one, arith, ltb→lt, length-set, get_or-set_same, get_or-set_other}
+use Rattle.std.proofs.Common.{◌∙◌, not-suc-le-zero, mod-eq_of_lt, add-one, arith, length-set, get_or-set_same, get_or-set_other}
 use Rattle.std.proofs.Math.Decide.{ℕ_discrete, dec_lt}
 use Rattle.algebra.specs.Sets.{count, count_all, count_pos, count_drop}
-use Rattle.algebra.specs.Tests.{at, each, each_at, below, below_at}
+use Rattle.algebra.specs.Tests.{at, below, below_at}
 use Rattle.algebra.specs.Lists.{Filled}
 use Rattle.algebra.specs.Kernel.{Fine, Fine-unit, Fine-keep, Fine-comb, Fine-ext, Fine-same, comb, dot_ext}
 use Rattle.field.specs.Elements.{wide, one_below}
@@ -54,14 +55,14 @@ units_more {s} {v} u h = record {
   zeros = λ i l a b. get_or-set_other v (s * 10) (i * 9 + l) 1 0 (omega arith) ∙ u.zeros i l a b;
 }
 
-pub eliminated_none : (m d : ℕ) (sums v alive : List ℕ) → d ≤ 9 → Units 9 v → length alive ≡ 9 → T (each 9 λ i. ltb 0 (at alive i)) → Eliminated m d sums 0 v alive
-eliminated_none m d sums v alive h u f a = record {
+pub eliminated_none : (m d : ℕ) (sums v alive : List ℕ) → d ≤ 9 → Units 9 v → alive ≡ replicate 9 1 → Eliminated m d sums 0 v alive
+eliminated_none m d sums v alive h u f = record {
   size = u.size;
-  flags = f;
+  flags = rw f refl;
   fine = λ s g b.
       let e : s * 9 + s ≡ s * 10 = omega arith in
       Fine-unit (K m) d (at sums) (row v (s * 9)) s g (rw (e, u.ones s (omega arith), mod-eq_of_lt (one_below (wide m) (known m))) (omega arith)) λ l c k. rw (u.zeros s l c (omega arith)) (K m).Z-zero;
-  many = omega (arith, count_all (living alive) d λ s g. ltb→lt 0 (at alive s) (each_at 9 _ a s (omega arith)));
+  many = omega (arith, count_all (living alive) d λ s g. rw (f, get_or-replicate {A = ℕ} 9 s 1 0 (omega arith)) (omega arith));
 }
 
 -- ---- one window: its pivot

@@ -1,10 +1,9 @@
 // The values at the flagged places of a word, and the word and its power sums without them.
 ghost use Rattle.std.specs.Prelude.{◌≡◌, ◌<◌, ◌≤◌, length};
 ghost use Rattle.decoder.specs.Places.{Locators};
-ghost use Rattle.decoder.specs.Listing.{Inside};
 ghost use Rattle.decoder.specs.Corrections.{Weighs, ErrorListed, TakenOut, Corrected};
 
-use crate::peel::{distance, list, peel_listed};
+use crate::peel::Listing;
 use field::shifts::{inverse_at, times};
 
 // The weight of a place of locator x in the first power sum of a code whose roots begin at a^b: x^b.
@@ -20,23 +19,13 @@ fn weight(b: usize, x: u8) -> u8
 
 // The error at place p, where all errors are at listed places: what is left of the power sums when the others are peeled, by the
 // distance of p from them.
-pub fn error_value(
-    m: usize,
-    n: usize,
-    b: usize,
-    locators: &[u8; 255],
-    places: &[u8; 255],
-    count: usize,
-    sums: [u8; 16],
-    p: usize,
-) -> u8
-    requires n_bound { (n ≤ 255) × (count ≤ n) × (p < n) × (b ≤ 1) × Inside n count places.now }
-    requires locators { Locators m n locators.now }
-    ensures { ErrorListed m n b places.now count sums p result }
+pub fn error_value(listing: &Listing, b: usize, sums: [u8; 16], p: usize) -> u8
+    requires { (p < listing.now.n) × (b ≤ 1) }
+    ensures { ErrorListed listing.now.m listing.now.n b listing.now.places listing.now.count sums p result }
 {
-    let rest = peel_listed(m, n, locators, places, count, p, sums);
-    let far = distance(m, n, locators, places, count, p, weight(b, locators[p]));
-    times(m, rest[0], inverse_at(m, far))
+    let rest = listing.peel(p, sums);
+    let far = listing.distance(p, weight(b, listing.locators[p]));
+    times(listing.m, rest[0], inverse_at(listing.m, far))
 }
 
 // Takes those of one symbol out of the power sums: y, y x, y x^2, ..
@@ -67,13 +56,12 @@ pub fn correct(
     requires locators { Locators m n locators.now }
     ensures { Corrected m n b flags.now sums word.old word.new result }
 {
-    let mut places: [u8; 255] = [0; 255];
-    let count = list(n, flags, &mut places);
+    let listing = Listing::of(m, n, locators, flags);
     let mut rest = sums;
     for i in 0..n {
         if flags[i] != 0 {
             let x = locators[i];
-            let e = error_value(m, n, b, locators, &places, count, sums, i);
+            let e = error_value(&listing, b, sums, i);
             word[i] ^= e;
             take_out(m, &mut rest, times(m, e, weight(b, x)), x);
         }

@@ -26,12 +26,12 @@ pub fn locators(m: usize, n: usize) -> [u8; 255]
 // One turn of Horner's rule at each of the first n points, in the field of 2^M elements. M is known before the run, so the loop is vector code.
 fn raise_by<const M: usize>(
     n: usize,
-    values: [u8; 255],
+    values: &[u8; 255],
     points: &[u8; 255],
     symbol: u8,
 ) -> [u8; 255]
     requires { n ≤ 255 }
-    ensures { Filled 255 (raised_at M symbol values points.now) n result }
+    ensures { Filled 255 (raised_at M symbol values.now points.now) n result }
 {
     let mut next = [0; 255];
     for i in 0..n {
@@ -41,9 +41,9 @@ fn raise_by<const M: usize>(
 }
 
 // The same in the field that m names.
-fn raise(m: usize, n: usize, values: [u8; 255], points: &[u8; 255], symbol: u8) -> [u8; 255]
+fn raise(m: usize, n: usize, values: &[u8; 255], points: &[u8; 255], symbol: u8) -> [u8; 255]
     requires { n ≤ 255 }
-    ensures { Filled 255 (raised_at m symbol values points.now) n result }
+    ensures { Filled 255 (raised_at m symbol values.now points.now) n result }
 {
     if m == 3 {
         raise_by::<3>(n, values, points, symbol)
@@ -59,7 +59,7 @@ fn values(m: usize, n: usize, v: &[u8; 16], d: usize, points: &[u8; 255]) -> [u8
 {
     let mut sums: [u8; 255] = [0; 255];
     for l in (0..d).rev() {
-        let next = raise(m, n, sums, points, v[l]);
+        let next = raise(m, n, &sums, points, v[l]);
         sums = next;
     }
     sums

@@ -20,48 +20,75 @@ pub fn peel(m: usize, sums: [u8; 16], x: u8) -> [u8; 16]
     rest
 }
 
-// Puts the flagged places of a word of n into `places`, in order, and gives their number.
-pub fn list(n: usize, flags: &[u8], places: &mut [u8; 255]) -> usize
-    requires { (n ≤ 255) × (n ≤ length flags.now) × (length places.old ≡ 255) }
-    ensures { (result ≤ n) × Listed n flags.now result places.new }
-{
-    let mut count = 0;
-    let mut i = 0;
-    while i < n {
-        if flags[i] != 0 {
-            places[count] = i as u8;
-            count += 1;
-        }
-        i += 1;
-    }
-    count
+// The flagged places of a word of n symbols in the field that m names, in order: the first `count` of `places`. The locators of all its places
+// go with them, since each step asks for some.
+#[derive(Drop)]
+pub struct Listing<'a> {
+    pub m: usize,
+    pub n: usize,
+    pub locators: &'a [u8; 255],
+    pub places: [u8; 255],
+    pub count: usize,
+    pub ghost short: { n ≤ 255 },
+    pub ghost few: { count ≤ n },
+    pub ghost inside: { Inside n count places },
+    pub ghost located: { Locators m n locators.now },
 }
 
-// The sums without the listed places of a word of n, but for the place `skip`, which stays.
-pub fn peel_listed(
-    m: usize,
-    n: usize,
-    locators: &[u8; 255],
-    places: &[u8; 255],
-    count: usize,
-    skip: usize,
-    sums: [u8; 16],
-) -> [u8; 16]
-    requires n_bound { (n ≤ 255) × (count ≤ n) × Inside n count places.now }
-    requires locators { Locators m n locators.now }
-    ensures { PeeledListed m n places.now count skip sums result }
-{
-    let mut rest = sums;
-    let mut s = 0;
-    while s < count {
-        let i = places[s] as usize;
-        if i != skip {
-            let peeled = peel(m, rest, locators[i]);
-            rest = peeled;
+impl<'a> Listing<'a> {
+    // The listing of the places that these flags name.
+    pub fn of(m: usize, n: usize, locators: &'a [u8; 255], flags: &[u8]) -> Listing<'a>
+        requires n_bound { (n ≤ 255) × (n ≤ length flags.now) }
+        requires locators { Locators m n locators.now }
+        ensures same { (result.m ≡ m) × (result.n ≡ n) }
+        ensures listed { Listed n flags.now result.count result.places }
+    {
+        let mut places: [u8; 255] = [0; 255];
+        let mut count = 0;
+        for i in 0..n {
+            if flags[i] != 0 {
+                places[count] = i as u8;
+                count += 1;
+            }
         }
-        s += 1;
+        Listing {
+            m,
+            n,
+            locators,
+            places,
+            count,
+        }
     }
-    rest
+
+    // The sums without the listed places, but for the place `skip`, which stays.
+    pub fn peel(&self, skip: usize, sums: [u8; 16]) -> [u8; 16]
+        ensures { PeeledListed self.now.m self.now.n self.now.places self.now.count skip sums result }
+    {
+        let mut rest = sums;
+        for place in &self.places[..self.count] {
+            let i = usize::from(*place);
+            if i != skip {
+                let peeled = peel(self.m, rest, self.locators[i]);
+                rest = peeled;
+            }
+        }
+        rest
+    }
+
+    // The product of `start` and the differences of the locator of place p from those of the other listed places.
+    pub fn distance(&self, p: usize, start: u8) -> u8
+        requires { p < self.now.n }
+        ensures { Distant self.now.m self.now.n self.now.places self.now.count p start result }
+    {
+        let mut far = start;
+        for place in &self.places[..self.count] {
+            let i = usize::from(*place);
+            if i != p {
+                far = times(self.m, far, self.locators[p] ^ self.locators[i]);
+            }
+        }
+        far
+    }
 }
 
 // The sums without the flagged places of a word of n.
@@ -70,33 +97,5 @@ pub fn peel_all(m: usize, n: usize, locators: &[u8; 255], flags: &[u8], sums: [u
     requires locators { Locators m n locators.now }
     ensures { PeeledAll m n flags.now n sums result }
 {
-    let mut places: [u8; 255] = [0; 255];
-    let count = list(n, flags, &mut places);
-    peel_listed(m, n, locators, &places, count, n, sums)
-}
-
-// The product of `start` and the differences of the locator of place p from those of the other listed places.
-pub fn distance(
-    m: usize,
-    n: usize,
-    locators: &[u8; 255],
-    places: &[u8; 255],
-    count: usize,
-    p: usize,
-    start: u8,
-) -> u8
-    requires n_bound { (n ≤ 255) × (count ≤ n) × (p < n) × Inside n count places.now }
-    requires locators { Locators m n locators.now }
-    ensures { Distant m n places.now count p start result }
-{
-    let mut far = start;
-    let mut s = 0;
-    while s < count {
-        let i = places[s] as usize;
-        if i != p {
-            far = times(m, far, locators[p] ^ locators[i]);
-        }
-        s += 1;
-    }
-    far
+    Listing::of(m, n, locators, flags).peel(n, sums)
 }

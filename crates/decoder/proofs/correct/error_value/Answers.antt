@@ -7,5 +7,5 @@ use Rattle.decoder.proofs.correct.error_value.Goals as goal
 
 pub returns : goal.returns
 returns c = λ flags h.
-    error_at (get_or c.args.locators.now c.args.p 0) _ _ _ _ c.weight.ensures (c.requires.locators.entry _ (omega arith)) (c.distance-far.ensures flags h)
-    (λ few. c.peel_listed-rest.ensures flags h 0 (omega arith)) c.inverse_at.ensures.1 c.times.ensures
+    error_at (get_or c.args.listing.now.locators.now c.args.p 0) _ _ _ _ c.weight.ensures (c.args.listing.now.located.entry _ c.requires.0) (c.distance-far.ensures flags h)
+    (λ few. c.peel-rest.ensures flags h 0 (omega arith)) c.inverse_at.ensures.1 c.times.ensures

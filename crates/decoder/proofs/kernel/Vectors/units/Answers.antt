@@ -1,11 +1,10 @@
 -- `decoder::kernel::units` meets its contract: each turn sets one entry of the diagonal. The invariant: the first s rows have their 1, and nothing behind the
 -- diagonal is set. The measure is how many rows are left.
-use native.Mathlib.Omega.{arith}
 use mathlib.Core.Path.{refl}
 use Rattle.algebra.specs.Tests.{below}
 use Rattle.decoder.specs.Elimination.{units_none}
-use Rattle.decoder.proofs.kernel.units.Goals as goal
+use Rattle.decoder.proofs.kernel.Vectors.units.Goals as goal
 
 pub loop-s-init : goal.loop-s-init
 unfolding below
-loop-s-init c = (omega arith, units_none _ refl tt)
+loop-s-init c = units_none _ refl tt

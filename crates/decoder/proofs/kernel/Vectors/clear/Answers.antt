@@ -2,13 +2,13 @@
 -- invariant: the vectors before s are orthogonal to the window too, and the pivot is as it was. The measure is how many are left.
 use native.Mathlib.Omega.{arith}
 use Rattle.decoder.specs.Elimination.{clearing_dead, clearing_more}
-use Rattle.decoder.proofs.kernel.clear.Goals as goal
-use Rattle.decoder.proofs.kernel.clear.Goals.{then-alive-s-gt0, else-alive-s-gt0}
+use Rattle.decoder.proofs.kernel.Vectors.clear.Goals as goal
+use Rattle.decoder.proofs.kernel.Vectors.clear.Goals.{then-self-s-gt0, else-self-s-gt0}
 
 pub loop-s-preserved : goal.loop-s-preserved
 loop-s-preserved c =
     let o = c.loop-s in
-    elim c.if-alive-s-gt0.branch [
-      | then-alive-s-gt0 w ↦ rw w.v-is (clearing_more o.invariant (omega arith) (omega arith) w.if-alive-s-gt0.true w.dot-y.ensures w.combine.ensures)
-      | else-alive-s-gt0 w ↦ rw w.v-is (clearing_dead o.invariant (omega arith))
+    elim c.if-self-s-gt0.branch [
+      | then-self-s-gt0 w ↦ rw w.self-is (clearing_more o.invariant (omega arith) (omega arith) w.if-self-s-gt0.true w.dot-y.ensures w.combine.ensures)
+      | else-self-s-gt0 w ↦ rw w.self-is (clearing_dead o.invariant (omega arith))
     ]

@@ -1,12 +1,9 @@
 -- `decoder::kernel::first` meets its contract: it stops at the first vector alive, and does not pass them all, since one is alive. The invariant: every vector
 -- passed is dead. The measure is how many are left.
-use Prim.Native.Nat.{ℕ, ◌-◌, ◌<◌}
+use Prim.Native.Nat.{ℕ, ◌<◌}
 use mathlib.Core.Path.{◌≡◌}
 use Rattle.algebra.specs.Tests.{at}
-use Rattle.decoder.proofs.kernel.first.Given as goal
+use Rattle.decoder.proofs.kernel.Vectors.first.Given as goal
 
 abbrev pub invariant-loop-s : goal.invariant-loop-s
-invariant-loop-s l = (i : ℕ) → i < l.s → at l.alive i ≡ 0
-
-abbrev pub decreases-loop-s : goal.decreases-loop-s
-decreases-loop-s l = l.d - l.s
+invariant-loop-s l = (i : ℕ) → i < l.s → at l.self.alive i ≡ 0

@@ -2,13 +2,12 @@
 -- to peel the places that are left, from a sequence that the sums agree with as far as they count, is to peel all. The measure is the
 -- number of places left.
 use mathlib.Core.List.{List}
-use Prim.Native.Nat.{ℕ, ◌-◌, ◌≤◌}
+use Prim.Native.Nat.{ℕ}
 use Rattle.decoder.specs.Peeling.{Peeling}
 use Rattle.decoder.specs.Listing.{Listed, from}
-use Rattle.decoder.proofs.peel.peel_listed.Given as goal
+use Rattle.decoder.proofs.peel.Listing.peel.Given as goal
 
-abbrev pub invariant-loop-s : goal.invariant-loop-s
-invariant-loop-s l = (l.s ≤ l.count) × ((flags : List ℕ) → Listed l.n flags l.count l.places → Peeling l.m l.n flags l.skip l.initial.rest (from l.places l.s) l.rest)
-
-abbrev pub decreases-loop-s : goal.decreases-loop-s
-decreases-loop-s l = l.count - l.s
+abbrev pub invariant-loop-place : goal.invariant-loop-place
+invariant-loop-place l =
+    let a = l.self in
+    (flags : List ℕ) → Listed a.n flags a.count a.places → Peeling a.m a.n flags l.skip l.initial.rest (from a.places l.place-index) l.rest

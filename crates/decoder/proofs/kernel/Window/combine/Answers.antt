@@ -2,9 +2,9 @@
 -- invariant: the first l numbers of the row are made, and all else is as it was. The measure is how many are left.
 use native.Mathlib.Omega.{arith}
 use Rattle.decoder.specs.Rows.{combined_more}
-use Rattle.decoder.proofs.kernel.combine.Goals as goal
+use Rattle.decoder.proofs.kernel.Window.combine.Goals as goal
 
 pub loop-l-preserved : goal.loop-l-preserved
 loop-l-preserved c =
     let o = c.loop-l in
-    (omega arith, combined_more o.invariant.1 (omega arith) (omega arith) c.lanes.ensures c.lanes-2.ensures c.products-own.ensures c.products-other.ensures)
+    combined_more o.invariant (omega arith) (omega arith) c.lanes.ensures c.lanes-2.ensures c.products-own.ensures c.products-other.ensures

@@ -1,8 +1,7 @@
 -- `decoder::kernel::combine` meets its contract: each number of the row is the sum of a product of each row, which were made before any was written. The
 -- invariant: the first l numbers of the row are made, and all else is as it was. The measure is how many are left.
-use Prim.Native.Nat.{◌≤◌}
 use Rattle.decoder.specs.Rows.{Combined}
-use Rattle.decoder.proofs.kernel.combine.Given as goal
+use Rattle.decoder.proofs.kernel.Window.combine.Given as goal
 
 abbrev pub invariant-loop-l : goal.invariant-loop-l
-invariant-loop-l l = (l.l ≤ l.d) × Combined l.m l.b l.c l.l l.x l.y l.initial.v l.v
+invariant-loop-l l = Combined l.self.m l.b l.c l.l l.x l.y l.initial.rows l.rows

@@ -3,8 +3,8 @@
 use native.Mathlib.Omega.{arith}
 use lib.ListN.{length-set}
 use Rattle.decoder.specs.Listing.{listed_none, listed_pass, listed_add}
-use Rattle.decoder.proofs.peel.list.Goals as goal
-use Rattle.decoder.proofs.peel.list.Goals.{then-flags-i-ne0, else-flags-i-ne0}
+use Rattle.decoder.proofs.peel.Listing.of.Goals as goal
+use Rattle.decoder.proofs.peel.Listing.of.Goals.{then-flags-i-ne0, else-flags-i-ne0}
 
 pub loop-i-init : goal.loop-i-init
 loop-i-init c = (omega arith, omega arith, omega arith, listed_none _ _)

@@ -1,7 +1,7 @@
 -- `decoder::kernel::clear` meets its contract: a vector alive behind the pivot takes in so much of it that the two products with the window cancel. The
 -- invariant: the vectors before s are orthogonal to the window too, and the pivot is as it was. The measure is how many are left.
 use Rattle.decoder.specs.Elimination.{Clearing}
-use Rattle.decoder.proofs.kernel.clear.Given as goal
+use Rattle.decoder.proofs.kernel.Vectors.clear.Given as goal
 
 abbrev pub invariant-loop-s : goal.invariant-loop-s
-invariant-loop-s l = Clearing l.m l.d l.sums l.j l.p l.x l.s l.v l.alive
+invariant-loop-s l = let w = l.window in Clearing w.m w.d w.sums.now w.j l.p l.x l.s l.self.rows l.self.alive

@@ -1,8 +1,7 @@
 -- `decoder::kernel::units` meets its contract: each turn sets one entry of the diagonal. The invariant: the first s rows have their 1, and nothing behind the
 -- diagonal is set. The measure is how many rows are left.
-use Prim.Native.Nat.{◌≤◌}
 use Rattle.decoder.specs.Elimination.{Units}
-use Rattle.decoder.proofs.kernel.units.Given as goal
+use Rattle.decoder.proofs.kernel.Vectors.units.Given as goal
 
 abbrev pub invariant-loop-s : goal.invariant-loop-s
-invariant-loop-s l = (l.s ≤ 9) × Units l.s l.v
+invariant-loop-s l = Units l.s l.rows

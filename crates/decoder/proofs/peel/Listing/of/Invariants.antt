@@ -1,13 +1,10 @@
 -- `decoder::peel::list` meets its contract. The loop's invariant (`Listed`): the flagged places before i are listed. The measure is the number
 -- of places left.
 use mathlib.Core.Path.{◌≡◌}
-use Prim.Native.Nat.{◌-◌, ◌≤◌}
+use Prim.Native.Nat.{◌≤◌}
 use lib.ListN.{length}
 use Rattle.decoder.specs.Listing.{Listed}
-use Rattle.decoder.proofs.peel.list.Given as goal
+use Rattle.decoder.proofs.peel.Listing.of.Given as goal
 
 abbrev pub invariant-loop-i : goal.invariant-loop-i
 invariant-loop-i l = (l.count ≤ l.i) × (l.i ≤ l.n) × (length l.places ≡ 255) × Listed l.i l.flags l.count l.places
-
-abbrev pub decreases-loop-i : goal.decreases-loop-i
-decreases-loop-i l = l.n - l.i

@@ -1,0 +1,12 @@
+-- `decoder::peel::distance` meets its contract. The loop's invariant (`Nearing`): what is multiplied, times the differences that are left, is
+-- the distance. The measure is the number of places left.
+use mathlib.Core.List.{List}
+use Prim.Native.Nat.{ℕ}
+use Rattle.decoder.specs.Peeling.{Nearing}
+use Rattle.decoder.specs.Listing.{Listed, from}
+use Rattle.decoder.proofs.peel.Listing.distance.Given as goal
+
+abbrev pub invariant-loop-place : goal.invariant-loop-place
+invariant-loop-place l =
+    let a = l.self in
+    (flags : List ℕ) → Listed a.n flags a.count a.places → Nearing a.m a.n flags l.p l.start (from a.places l.place-index) l.far
