@@ -3,12 +3,11 @@
 ghost use Rattle.std.specs.Prelude.{◌≡◌, ◌<◌, ◌≤◌, true, length, replicate};
 ghost use Rattle.algebra.specs.Tests.{below};
 ghost use Rattle.word.specs.Looking.{Tabled};
-ghost use Rattle.interleave.specs.Slots.{HasWord, TakesWord, PutsWord};
+ghost use Rattle.interleave.specs.Slots.{TakesWord};
 ghost use Rattle.frame.specs.Frame.{word_setting, slot_count, area_size, receive_outcome, settled, decoded_frame};
 ghost use Rattle.frame.specs.Promises.{Receives};
 ghost use Rattle.frame.specs.Frame.Limits.{FrameAllowed};
 ghost use Rattle.frame.specs.Checks.{ReceiveChecked, ReceiveTold};
-ghost use Rattle.frame.specs.Mapping.{Blank, Spare};
 ghost use Rattle.frame.specs.Decoding.{WordGiven, WordTold, Collected};
 
 use crate::setting::{Framing, ReceiveError, Received, is_allowed};
@@ -58,18 +57,19 @@ impl Arrived<'_> {
         let marked = self.marks_of(w);
         let mut room = work_space();
         let changed = &mut room[..f.n];
-        let answer = decode_part_by(
+        let own = decode_part_by(
             f.words(),
             self.tables,
             &word[..f.n],
             &marked[..f.n],
             part,
             changed,
-        );
-        let Ok(own) = answer else {
-            return None;
-        };
-        put_changes(f, w, own.bits, changed, map);
+        )
+        .ok()?;
+        // Without changed bits the word's map is all 0, as its slots are already.
+        if own.bits != 0 {
+            put_word(f.depth, w, changed, map);
+        }
         Some(own)
     }
 
@@ -100,17 +100,6 @@ fn no_marks() -> [u8; 255]
     [0; 255]
 }
 
-// Puts a word's map into its slots of the frame's, which are 0 before. Without changed bits it is all 0, and there is nothing to put.
-fn put_changes(f: Framing, w: usize, bits: u16, changed: &[u8], map: &mut [u8])
-    requires { HasWord f.depth f.n w (length map.old) × Blank f.depth w map.old × Spare bits f.n changed.now }
-    ensures { PutsWord f.depth w changed.now map.old map.new }
-{
-    if bits == 0 {
-        return;
-    }
-    put_word(f.depth, w, changed, map);
-}
-
 // What a frame leaves that is refused once it has been decoded: zeros.
 fn clear(whole: &mut [u8], changed: &mut [u8])
     ensures { (whole.new ≡ replicate (length whole.old) 0) × (changed.new ≡ replicate (length changed.old) 0) }
@@ -120,6 +109,7 @@ fn clear(whole: &mut [u8], changed: &mut [u8])
 }
 
 // The answer of a frame whose words are all accepted: what its trailer says.
+#[tactic(auto, using(crate::specs::Receiving::settled_bad, crate::specs::Receiving::settled_good))]
 fn settle(
     whole: &mut [u8],
     map: &mut [u8],
@@ -141,6 +131,7 @@ fn settle(
 }
 
 // Decodes a frame that has passed the checks. Its words have one setting, so they have their tables in common.
+#[tactic(auto, using(crate::specs::Receiving::decoded_beyond, crate::specs::Receiving::decoded_settled))]
 fn receive_checked(
     f: Framing,
     slots: &[u8],
