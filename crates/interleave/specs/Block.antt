@@ -1,12 +1,14 @@
 -- The block interleaver (document 01, Block interleaver and frame): columns filled and rows sent.
 -- Assumes nothing.
-use Rattle.std.specs.Prelude.{◌≡◌, refl, List, ℕ, zero, suc, ◌+◌, ◌*◌, ◌/◌, ◌%◌, ◌≤◌, ◌<◌, length, get_or}
+use Rattle.std.specs.Prelude.{◌≡◌, refl, Result, Ok, Err, List, ℕ, zero, suc, ◌+◌, ◌*◌, ◌/◌, ◌%◌, ◌≤◌, ◌<◌, length, get_or}
 use Rattle.std.proofs.Common.{sym, ap, ◌∙◌, not-suc-le-zero, mul-le-mul_right, suc-mul, mul-zero, add-zero, mod-eq_of_lt, mod-lt, div-lt_iff_lt-mul, div-add-mod', arith, ext_get_or}
 use Rattle.std.proofs.Math.Logic.Dec
 use Rattle.std.proofs.Math.Nat.{mul-add-mod_self_right, mul-add-div_right, div-eq_of_lt}
 use Rattle.std.proofs.Math.Decide.{ℕ_discrete, dec_le}
 use Rattle.algebra.specs.Lists.{tabulate, length_tabulate, get_or_tabulate}
-use Rattle.algebra.specs.Refusal.{need, need_yes, need_zero, if_zero}
+use Rattle.algebra.specs.Refusal.{need, need_yes, need_zero, need_either, if_zero}
+use Rattle.interleave.specs.Numbers.{block_number, block_error, number_of, block_numbered}
+use Rattle.interleave.specs.declared.block.BlockError.{BlockError}
 
 -- m rows of n bytes as n rows of m: place i * m + w has byte i of row w
 unfoldable pub transposed : ℕ → ℕ → List ℕ → List ℕ
@@ -36,29 +38,50 @@ block_refusal J n source target =
     need (block_setting? J n) 1 (need (ℕ_discrete source (J * n)) 2 (need (ℕ_discrete target (J * n)) 2 0))
 
 -- what `spread` and `gather` answer, and what they leave in the target
-unfoldable pub spreading : ℕ → ℕ → List ℕ → List ℕ → ℕ × List ℕ
-spreading J n words slots = let k = block_refusal J n (length words) (length slots) in if_zero k (0, spread J n words) (k, slots)
+abbrev pub Given : Type 0
+Given = Result (Unit {0}) BlockError × List ℕ
 
-unfoldable pub gathering : ℕ → ℕ → List ℕ → List ℕ → ℕ × List ℕ
-gathering J n slots words = let k = block_refusal J n (length slots) (length words) in if_zero k (0, gather J n slots) (k, words)
+unfoldable pub spreading : ℕ → ℕ → List ℕ → List ℕ → Given
+spreading J n words slots = let k = block_refusal J n (length words) (length slots) in if_zero k (Ok tt, spread J n words) (Err (block_error k), slots)
 
-pub record Spread (J n : ℕ) (words slots : List ℕ) (r : ℕ) (left : List ℕ) : Type 0 where
-  pub outcome : ◌≡◌ {A = ℕ × List ℕ} (r, left) (spreading J n words slots)
+unfoldable pub gathering : ℕ → ℕ → List ℕ → List ℕ → Given
+gathering J n slots words = let k = block_refusal J n (length slots) (length words) in if_zero k (Ok tt, gather J n slots) (Err (block_error k), words)
 
-pub record Gather (J n : ℕ) (slots words : List ℕ) (r : ℕ) (left : List ℕ) : Type 0 where
-  pub outcome : ◌≡◌ {A = ℕ × List ℕ} (r, left) (gathering J n slots words)
+pub record Spread (J n : ℕ) (words slots : List ℕ) (r : Result (Unit {0}) BlockError) (left : List ℕ) : Type 0 where
+  pub outcome : ◌≡◌ {A = Given} (r, left) (spreading J n words slots)
 
-both : (r s : ℕ) (x y : List ℕ) → ◌≡◌ {A = ℕ × List ℕ} (r, x) (s, y) → (r ≡ s) × (x ≡ y)
-both r s x y e = (ap (λ (z : ℕ × List ℕ). z.0) e, ap (λ (z : ℕ × List ℕ). z.1) e)
+pub record Gather (J n : ℕ) (slots words : List ℕ) (r : Result (Unit {0}) BlockError) (left : List ℕ) : Type 0 where
+  pub outcome : ◌≡◌ {A = Given} (r, left) (gathering J n slots words)
+
+both : (r s : Result (Unit {0}) BlockError) (x y : List ℕ) → ◌≡◌ {A = Given} (r, x) (s, y) → (r ≡ s) × (x ≡ y)
+both r s x y e = (ap (λ (z : Given). z.0) e, ap (λ (z : Given). z.1) e)
 
 -- No second answer meets the promise of `spread`, and none that of `gather`.
-pub spread_once : (J n : ℕ) (words slots : List ℕ) (r s : ℕ) (x y : List ℕ) → Spread J n words slots r x → Spread J n words slots s y → (r ≡ s) × (x ≡ y)
+pub spread_once : (J n : ℕ) (words slots : List ℕ) (r s : Result (Unit {0}) BlockError) (x y : List ℕ) → Spread J n words slots r x → Spread J n words slots s y → (r ≡ s) × (x ≡ y)
 spread_once J n words slots r s x y p q = both r s x y (p.outcome ∙ sym q.outcome)
 
-pub gather_once : (J n : ℕ) (slots words : List ℕ) (r s : ℕ) (x y : List ℕ) → Gather J n slots words r x → Gather J n slots words s y → (r ≡ s) × (x ≡ y)
+pub gather_once : (J n : ℕ) (slots words : List ℕ) (r s : Result (Unit {0}) BlockError) (x y : List ℕ) → Gather J n slots words r x → Gather J n slots words s y → (r ≡ s) × (x ≡ y)
 gather_once J n slots words r s x y p q = both r s x y (p.outcome ∙ sym q.outcome)
 
 -- ---- laws
+
+-- The answer's number is the paper's.
+block_most : (J n source target : ℕ) → block_refusal J n source target ≤ 2
+unfolding block_refusal
+block_most J n source target =
+    need_either _ 1 _ (λ z. z ≤ 2) (omega arith) (need_either _ 2 _ (λ z. z ≤ 2) (omega arith) (need_either _ 2 0 (λ z. z ≤ 2) (omega arith) (omega arith)))
+
+pub spread_number : (J n : ℕ) (words slots : List ℕ) (r : Result (Unit {0}) BlockError) (left : List ℕ) → Spread J n words slots r left
+    → number_of block_number r ≡ block_refusal J n (length words) (length slots)
+unfolding spreading
+spread_number J n words slots r left p =
+    ap (λ (z : Given). number_of block_number z.0) p.outcome ∙ block_numbered (λ (z : Given). z.0) _ _ _ (block_most J n (length words) (length slots)) refl refl
+
+pub gather_number : (J n : ℕ) (slots words : List ℕ) (r : Result (Unit {0}) BlockError) (left : List ℕ) → Gather J n slots words r left
+    → number_of block_number r ≡ block_refusal J n (length slots) (length words)
+unfolding gathering
+gather_number J n slots words r left p =
+    ap (λ (z : Given). number_of block_number z.0) p.outcome ∙ block_numbered (λ (z : Given). z.0) _ _ _ (block_most J n (length slots) (length words)) refl refl
 
 -- a block that is not refused
 pub record BlockFine (J n source target : ℕ) : Type 0 where

@@ -1,3 +1,4 @@
+pub mod Numbers
 pub mod Block
 pub mod Rows
 pub mod Slots

@@ -5,9 +5,10 @@ use Rattle.std.proofs.Common.{sym, ◌∙◌, arith}
 use Rattle.std.proofs.Math.Logic.Dec
 use Rattle.std.proofs.Math.Decide.{ℕ_discrete, dec_le, dec_lt, map_dec}
 use Rattle.algebra.specs.Tests.{below}
-use Rattle.algebra.specs.Refusal.{need, need_yes, need_zero, first, first_none, first_zero, passes}
+use Rattle.algebra.specs.Refusal.{need, need_yes, need_zero, need_either, first, first_none, first_zero, passes}
 use Rattle.rings.specs.Rings.{order, tri_size}
 use Rattle.rings.specs.Run.{RunFits, Ran, run, run_size, run_position}
+use Rattle.interleave.specs.Numbers.{first_most}
 use Rattle.interleave.specs.Line.{period, period_round}
 use Rattle.interleave.specs.declared.line.Line.{Line}
 
@@ -124,6 +125,24 @@ unfolding receive_refusal
 receive_done l size held many marks r =
     let f = r.receiver in
     sym (first_none _ _ 0 (receiver_done l size (length held) f.line f.exact) (need_yes _ _ _ 0 r.each (need_yes _ _ _ 0 f.fit (need_yes _ _ _ 0 r.small refl))))
+
+-- which numbers there are
+line_most : (l : Line) (size : ℕ) → line_refusal l size ≤ 2
+unfolding line_refusal
+line_most l size = need_either _ 1 _ (λ z. z ≤ 2) (omega arith) (need_either _ 2 0 (λ z. z ≤ 2) (omega arith) (omega arith))
+
+pub line_numbers : (l : Line) (size : ℕ) → line_refusal l size ≤ 3
+line_numbers l size = omega (arith, line_most l size)
+
+pub receiver_numbers : (l : Line) (size marks : ℕ) → receiver_refusal l size marks ≤ 3
+unfolding receiver_refusal
+receiver_numbers l size marks = first_most _ _ 3 (line_numbers l size) (need_either _ 2 0 (λ z. z ≤ 3) (omega arith) (omega arith))
+
+pub receive_numbers : (l : Line) (size : ℕ) (held : List ℕ) (many : ℕ) (marks : List ℕ) → receive_refusal l size held many marks ≤ 3
+unfolding receive_refusal
+receive_numbers l size held many marks =
+    first_most _ _ 3 (receiver_numbers l size (length held))
+    (need_either _ 2 _ (λ z. z ≤ 3) (omega arith) (need_either _ 3 _ (λ z. z ≤ 3) (omega arith) (need_either _ 3 0 (λ z. z ≤ 3) (omega arith) (omega arith))))
 
 -- a fine line may run
 pub run_fits : (l : Line) (size : ℕ) → Fine l size → RunFits l.branches l.unit (period l.branches l.unit) l.position size

@@ -9,9 +9,9 @@ mod sender;
 pub mod slots;
 
 // The block interleaver.
-pub use block::{gather, spread};
+pub use block::{BlockError, gather, spread};
 
 // The delay line: a fresh line, a step, a run of steps.
-pub use line::{Line, Ready, Received, Sent};
+pub use line::{Line, LineError, Received, Sent};
 pub use receiver::{fresh_receiver, receive_run, receive_step};
 pub use sender::{fresh_sender, send_run, send_step};

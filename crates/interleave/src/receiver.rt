@@ -1,106 +1,85 @@
 // The receiver of a delay line: branch j holds a byte and its mark back by (branches - 1 - j) * unit * branches steps,
 // so that every byte has been held back equally long once it leaves.
 ghost use Rattle.std.specs.Prelude.{◌≡◌};
+ghost use Rattle.interleave.specs.Numbers.{answered, line_error};
 ghost use Rattle.interleave.specs.Setting.{receive_refusal};
 ghost use Rattle.interleave.specs.Promises.{FreshReceiver, ReceiveStep, ReceiveRun};
 
-use crate::line::{Line, Ready, Received, receiver_refusal, run_steps};
-use buffers::{all_below, fill};
+use crate::line::{Line, LineError, Received};
+use buffers::all_below;
 
 // A line at position 0 whose memory is zeros, each marked 1: nothing has been received yet.
-// Answers 0; or 1 for a setting outside the limits, 2 for a memory of another length, and both memories stay as they were.
+// Refused for a setting outside the limits or a memory of another length, and both memories stay as they were.
 pub fn fresh_receiver(
     branches: usize,
     unit: usize,
     n: usize,
     memory: &mut [u8],
     held: &mut [u8],
-) -> Ready
+) -> Result<Line, LineError>
     ensures { FreshReceiver branches unit n memory.old held.old result memory.new held.new }
 {
-    let line = Line {
-        branches,
-        unit,
-        n,
-        position: 0,
-    };
-    let r = receiver_refusal(line, memory.len(), held.len());
-    if r != 0 {
-        return Ready { answer: r, line };
-    }
-    fill(memory, 0);
-    fill(held, 1);
-    Ready { answer: 0, line }
+    let line = Line::fresh(branches, unit, n);
+    line.check_receiver(memory.len(), held.len())?;
+    memory.fill(0);
+    held.fill(1);
+    Ok(line)
 }
 
 // One step: the byte and its mark go in, and those that are due on this branch come out.
-// Answers 0; or 1 for the setting or the position, 2 for a memory's length, 3 for a mark above 1, and all stays as it was.
-pub fn receive_step(line: Line, memory: &mut [u8], held: &mut [u8], byte: u8, mark: u8) -> Received
+// Refused for the setting or the position, a memory's length, or a mark above 1, and all stays as it was.
+pub fn receive_step(
+    line: Line,
+    memory: &mut [u8],
+    held: &mut [u8],
+    byte: u8,
+    mark: u8,
+) -> Result<Received, LineError>
     ensures { ReceiveStep line memory.old held.old byte mark result memory.new held.new }
 {
     let mut one = [byte; 1];
     let mut flag = [mark; 1];
-    let run = receive_run(line, memory, held, &mut one, &mut flag);
-    if run.answer != 0 {
-        return Received {
-            answer: run.answer,
-            byte: 0,
-            mark: 0,
-            line,
-        };
-    }
-    let moved = run.line;
-    Received {
-        answer: 0,
+    let later = receive_run(line, memory, held, &mut one, &mut flag)?;
+    Ok(Received {
         byte: one[0],
         mark: flag[0],
-        line: moved,
-    }
+        line: later,
+    })
 }
 
 // A step for each of the bytes with its mark, in order; what leaves at a step takes the place of what went in.
-// Answers as `receive_step` does, and 2 where bytes and marks are not equally many. The marks of the memory are looked at once.
+// Refused as `receive_step` is, and where bytes and marks are not equally many. The marks of the memory are looked at once.
 pub fn receive_run(
     line: Line,
     memory: &mut [u8],
     held: &mut [u8],
     bytes: &mut [u8],
     marks: &mut [u8],
-) -> Ready
+) -> Result<Line, LineError>
     ensures { ReceiveRun line memory.old held.old bytes.old marks.old result memory.new held.new bytes.new marks.new }
 {
-    let r = receive_refusal(line, memory.len(), held, bytes.len(), marks);
-    if r != 0 {
-        return Ready { answer: r, line };
-    }
-    let branches = line.branches;
-    let unit = line.unit;
-    let position = line.position;
-    let mut later = line;
-    later.position = run_steps(branches, unit, position, true, memory, bytes);
-    run_steps(branches, unit, position, true, held, marks);
-    Ready {
-        answer: 0,
-        line: later,
-    }
+    check_run(&line, memory.len(), held, bytes.len(), marks)?;
+    let position = line.run(true, memory, bytes);
+    line.run(true, held, marks);
+    Ok(Line { position, ..line })
 }
 
-// The number by which a run of `many` bytes with these marks is refused, or 0.
-fn receive_refusal(line: Line, length: usize, held: &[u8], many: usize, marks: &[u8]) -> u8
-    ensures { result ≡ receive_refusal line length held.now many marks.now }
+// Whether a run of `many` bytes with these marks is refused.
+fn check_run(
+    line: &Line,
+    length: usize,
+    held: &[u8],
+    many: usize,
+    marks: &[u8],
+) -> Result<(), LineError>
+    ensures { result ≡ answered line_error (receive_refusal line.now length held.now many marks.now) tt }
 {
-    let r = receiver_refusal(line, length, held.len());
-    if r != 0 {
-        return r;
-    }
+    line.check_receiver(length, held.len())?;
     if marks.len() != many {
-        return 2;
+        return Err(LineError::BadLength);
     }
-    if !all_below(held, 2) {
-        return 3;
+    if !all_below(held, 2) || !all_below(marks, 2) {
+        return Err(LineError::BadMark);
     }
-    if !all_below(marks, 2) {
-        return 3;
-    }
-    0
+    Ok(())
 }

@@ -4,17 +4,15 @@ ghost use Rattle.std.specs.Prelude.{length};
 ghost use Rattle.algebra.specs.Lists.{Copied};
 ghost use Rattle.interleave.specs.Slots.{slot_byte, HasWord, TakesWord, PutsWord};
 
-use buffers::work_space;
+use buffers::filled;
 
 // Copies word w out of its slots.
 fn copy_word(depth: usize, w: usize, slots: &[u8], word: &mut [u8])
     requires { HasWord depth (length word.old) w (length slots.now) }
     ensures { Copied (length word.old) (slot_byte depth w slots.now) word.new }
 {
-    let mut i = 0;
-    while i < word.len() {
-        word[i] = slots[i * depth + w];
-        i += 1;
+    for (i, byte) in word.iter_mut().enumerate() {
+        *byte = slots[i * depth + w];
     }
 }
 
@@ -23,7 +21,7 @@ pub fn take_word(depth: usize, n: usize, w: usize, slots: &[u8]) -> [u8; 255]
     requires { HasWord depth n w (length slots.now) }
     ensures { TakesWord depth n w slots.now result }
 {
-    let mut word = work_space();
+    let mut word: [u8; 255] = filled(0);
     copy_word(depth, w, slots, &mut word[..n]);
     word
 }
@@ -33,9 +31,7 @@ pub fn put_word(depth: usize, w: usize, word: &[u8], slots: &mut [u8])
     requires { HasWord depth (length word.now) w (length slots.old) }
     ensures { PutsWord depth w word.now slots.old slots.new }
 {
-    let mut i = 0;
-    while i < word.len() {
-        slots[i * depth + w] = word[i];
-        i += 1;
+    for (i, byte) in word.iter().enumerate() {
+        slots[i * depth + w] = *byte;
     }
 }

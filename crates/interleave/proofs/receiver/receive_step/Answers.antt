@@ -1,10 +1,12 @@
 -- `receive_step` meets its contract, since a step is a run over one byte and its mark.
-use Rattle.interleave.proofs.Step.{receive_refused, receive_stepped}
+use Rattle.std.proofs.lemmas.Result.{err_from_is_err_and}
+use Rattle.interleave.proofs.Step.{receive_stepped}
 use Rattle.interleave.proofs.receiver.receive_step.Goals as goal
 
-pub returns-then-run-ne0 : goal.returns-then-run-ne0
-returns-then-run-ne0 c = receive_refused _ _ _ _ _ _ _ _ _ _ c.receive_run-run.ensures c.if-run-ne0.true
+pub returns-in_err-later : goal.returns-in_err-later
+returns-in_err-later c =
+    let p = err_from_is_err_and c.from_residual.result c.from_residual.ensures.1 in
+    rw (p.1, p.2) (receive_stepped _ _ _ _ _ _ _ _ _ _ c.in_err-later.ensures)
 
 pub returns : goal.returns
-returns c =
-    receive_stepped _ _ _ _ _ _ _ _ _ _ c.receive_run-run.ensures c.if-run-ne0.false
+returns c = receive_stepped _ _ _ _ _ _ _ _ _ _ c.in_ok-later.ensures
