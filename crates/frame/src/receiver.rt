@@ -12,7 +12,7 @@ ghost use Rattle.frame.specs.Decoding.{WordGiven, WordTold, Collected};
 
 use crate::setting::{Framing, ReceiveError, Received, is_allowed};
 use crate::trailer::{is_good, two_at};
-use buffers::{all_below, fill, work_space};
+use buffers::{all_below, fill, filled};
 use interleave::slots::{put_word, take_word};
 use word::Figures;
 use word::numbers::no_figures;
@@ -42,7 +42,7 @@ impl Arrived<'_> {
         ensures { TakesWord self.now.f.depth self.now.f.n w self.now.marks.now result }
     {
         if self.plain {
-            return no_marks();
+            return filled(0);
         }
         take_word(self.f.depth, self.f.n, w, self.marks)
     }
@@ -55,7 +55,7 @@ impl Arrived<'_> {
         let f = self.f;
         let word = take_word(f.depth, f.n, w, self.slots);
         let marked = self.marks_of(w);
-        let mut room = work_space();
+        let mut room: [u8; 255] = filled(0);
         let changed = &mut room[..f.n];
         let own = decode_part_by(
             f.words(),
@@ -91,13 +91,6 @@ impl Arrived<'_> {
         }
         Ok(figures)
     }
-}
-
-// Room for a word's marks, none of them set. A call of its own keeps the array out of its callers' proofs.
-fn no_marks() -> [u8; 255]
-    ensures { result ≡ replicate 255 0 }
-{
-    [0; 255]
 }
 
 // What a frame leaves that is refused once it has been decoded: zeros.
