@@ -27,12 +27,12 @@ fn area_at(payload: &[u8], sequence: u16, size: usize, i: usize) -> u8
     let end = size - 4;
     let start = end - payload.len();
     if i < start {
-        return 0;
+        0
+    } else if i < end {
+        payload[i - start]
+    } else {
+        trailer_of(payload.len() as u16, sequence)[i - end]
     }
-    if i < end {
-        return payload[i - start];
-    }
-    trailer_of(payload.len() as u16, sequence)[i - end]
 }
 
 // Fills the message of a word with the area's bytes from `start` on.
