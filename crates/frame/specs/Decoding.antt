@@ -1,6 +1,7 @@
 -- The words of a received frame: one that is decoded, and the loop that decodes them into their parts of the area.
 -- Assumes nothing.
 use Rattle.std.specs.Prelude.{◌≡◌, true, false, Result, Ok, Err, Option, Some, None, List, ℕ, zero, suc, ◌+◌, ◌*◌, ◌≤◌, ◌<◌, set, take, T, if◌then◌else◌}
+use Rattle.std.specs.Result.{result_ok}
 use Rattle.std.proofs.Math.Path.{refl, sym, ap}
 use Rattle.std.proofs.Common.{◌∙◌, not-suc-le-zero, mul-le-mul_right, arith, lt-ltb, le-ltb, below_more, length-set, ext_get_or, length-take-le, get_or-take, get_or-set_same, get_or-set_other}
 use Rattle.std.proofs.Math.Option as Math
@@ -22,7 +23,7 @@ use Rattle.word.specs.declared.DecodeError.{DecodeError}
 use Rattle.interleave.specs.Slots.{TakesWord, PutsWord, word_in, length_word, word_below}
 use Rattle.frame.specs.Frame.{word_setting, area_size, slot_count, is_none, received_word, received_marks, corrected_word, message_of, figures_at, changes_at, beyond, area_received, figures_received, map_received}
 use Rattle.frame.specs.Frame.Limits.{FrameAllowed}
-use Rattle.frame.specs.Mapping.{Blank, Spare, Mapping, zeros_at, mapping_none, mapping_more, mapping_all}
+use Rattle.frame.specs.Mapping.{Blank, Spare, Mapping, zeros_at, put_none, mapping_none, mapping_more, mapping_all}
 use Rattle.frame.specs.declared.setting.Framing.{Framing}
 
 -- ---- one word
@@ -73,14 +74,18 @@ pub record WordFound (f : Framing) (w : ℕ) (slots marks map : List ℕ) (own :
   pub size : length (changes_at f slots marks w) ≡ f.n
   pub put : PutsWord f.depth w (changes_at f slots marks w) map left_map
 
+pub word_put : (f : Framing) (w : ℕ) (slots marks : List ℕ) (own : Figures) (part changed map left_map : List ℕ) → Accepted f w slots marks own part changed → PutsWord f.depth w changed map left_map → WordFound f w slots marks map own part left_map
+word_put f w slots marks own part changed map left_map a p =
+    record { reached = a.reached; figures_lem = a.figures_lem; message = a.message; size = rw a.places at a.spare.size; put = rw a.places at p }
+
+-- where no bit was changed, the map's slots are right as they are
+pub word_kept : (f : Framing) (w : ℕ) (slots marks : List ℕ) (own : Figures) (part changed map : List ℕ) → w < f.depth → Blank f.depth w map → own.bits ≡ 0 → Accepted f w slots marks own part changed → WordFound f w slots marks map own part map
+word_kept f w slots marks own part changed map l blank e a = word_put f w slots marks own part changed map map a (put_none f.depth f.n w changed map l blank (a.spare.none e))
+
 -- or it is beyond reach
 abbrev pub WordTold : Framing → ℕ → (slots marks map : List ℕ) → Option Figures → (part left_map : List ℕ) → Type 0
 WordTold f w slots marks map (Some own) part left_map = WordFound f w slots marks map own part left_map
 WordTold f w slots marks map None part left_map = is_none (corrected_word f slots marks w) ≡ true
-
-pub word_put : (f : Framing) (w : ℕ) (slots marks : List ℕ) (own : Figures) (part changed map left_map : List ℕ) → Accepted f w slots marks own part changed → PutsWord f.depth w changed map left_map → WordFound f w slots marks map own part left_map
-word_put f w slots marks own part changed map left_map a p =
-    record { reached = a.reached; figures_lem = a.figures_lem; message = a.message; size = rw a.places at a.spare.size; put = rw a.places at p }
 
 module _ (f : Framing) (w : ℕ) (slots marks : List ℕ) (g : FrameTaken f slots marks) where
   abbrev word : List ℕ
@@ -104,12 +109,13 @@ module _ (f : Framing) (w : ℕ) (slots marks : List ℕ) (g : FrameTaken f slot
 
   module _ (part room : List ℕ) (part_size : length part ≡ message_size (word_setting f)) (room_size : length room ≡ f.n) (r s : List ℕ)
       (p : TakesWord f.depth f.n w slots r) (q : TakesWord f.depth f.n w marks s) where
-    abbrev says : Result Figures DecodeError → (left changed : List ℕ) → Type 0
-    says (Ok own) left changed = Accepted f w slots marks own left changed
-    says (Err e) left changed = is_none (corrected_word f slots marks w) ≡ true
+    -- what is known of a word by what it was found to have
+    abbrev says : Option Figures → (left changed : List ℕ) → Type 0
+    says (Some own) left changed = Accepted f w slots marks own left changed
+    says None left changed = is_none (corrected_word f slots marks w) ≡ true
 
     decides : T (below 256 word) → (d : Result Figures DecodeError) (left changed : List ℕ) → DecodesPart (word_setting f) word marked part room d left changed
-        → (o : Math.Option (List ℕ)) → corrected_word f slots marks w ≡ o → says d left changed
+        → (o : Math.Option (List ℕ)) → corrected_word f slots marks w ≡ o → says (result_ok d) left changed
     unfolding corrected_word message_of figures_at changes_at
     decides small d left changed t (some c) e =
         let own : Figures = figures marked word c in
@@ -125,7 +131,7 @@ module _ (f : Framing) (w : ℕ) (slots marks : List ℕ) (g : FrameTaken f slot
         let (x, y, z) = decodes_part_once t (part_lost (word_setting f) word marked part room part_size room_size (checks small) (unchanged word) e refl) in
         rw x (rw e refl)
 
-    pub word_told : (d : Result Figures DecodeError) (left changed : List ℕ) → DecodesPart (word_setting f) (take f.n r) (take f.n s) part room d left changed → says d left changed
+    pub word_told : (d : Result Figures DecodeError) (left changed : List ℕ) → DecodesPart (word_setting f) (take f.n r) (take f.n s) part room d left changed → says (result_ok d) left changed
     word_told d left changed t = decides (rw p.word at p.bytes) d left changed (rw (p.word, q.word) at t) (corrected_word f slots marks w) refl
 
 -- ---- the loop

@@ -3,17 +3,16 @@
 ghost use Rattle.std.specs.Prelude.{◌≡◌, ◌<◌, ◌≤◌, true, length, replicate};
 ghost use Rattle.algebra.specs.Tests.{below};
 ghost use Rattle.word.specs.Looking.{Tabled};
-ghost use Rattle.interleave.specs.Slots.{HasWord, TakesWord, PutsWord};
+ghost use Rattle.interleave.specs.Slots.{TakesWord};
 ghost use Rattle.frame.specs.Frame.{word_setting, slot_count, area_size, receive_outcome, settled, decoded_frame};
 ghost use Rattle.frame.specs.Promises.{Receives};
 ghost use Rattle.frame.specs.Frame.Limits.{FrameAllowed};
 ghost use Rattle.frame.specs.Checks.{ReceiveChecked, ReceiveTold};
-ghost use Rattle.frame.specs.Mapping.{Blank, Spare};
 ghost use Rattle.frame.specs.Decoding.{WordGiven, WordTold, Collected};
 
 use crate::setting::{Framing, ReceiveError, Received, is_allowed};
 use crate::trailer::{is_good, two_at};
-use buffers::{all_below, fill, work_space};
+use buffers::{all_below, filled};
 use interleave::slots::{put_word, take_word};
 use word::Figures;
 use word::numbers::no_figures;
@@ -43,7 +42,7 @@ impl Arrived<'_> {
         ensures { TakesWord self.now.f.depth self.now.f.n w self.now.marks.now result }
     {
         if self.plain {
-            return no_marks();
+            return filled(0);
         }
         take_word(self.f.depth, self.f.n, w, self.marks)
     }
@@ -56,20 +55,21 @@ impl Arrived<'_> {
         let f = self.f;
         let word = take_word(f.depth, f.n, w, self.slots);
         let marked = self.marks_of(w);
-        let mut room = work_space();
+        let mut room: [u8; 255] = filled(0);
         let changed = &mut room[..f.n];
-        let answer = decode_part_by(
+        let own = decode_part_by(
             f.words(),
             self.tables,
             &word[..f.n],
             &marked[..f.n],
             part,
             changed,
-        );
-        let Ok(own) = answer else {
-            return None;
-        };
-        put_changes(f, w, own.bits, changed, map);
+        )
+        .ok()?;
+        // Without changed bits the word's map is all 0, as its slots are already.
+        if own.bits != 0 {
+            put_word(f.depth, w, changed, map);
+        }
         Some(own)
     }
 
@@ -78,7 +78,7 @@ impl Arrived<'_> {
         requires { (length area.old ≡ area_size self.now.f) × (length map.old ≡ slot_count self.now.f) }
         ensures { Collected self.now.f self.now.slots.now self.now.marks.now result area.new map.new }
     {
-        fill(map, 0);
+        map.fill(0);
         let k = self.f.message();
         let mut figures = [no_figures(); 16];
         for w in 0..self.f.depth {
@@ -93,33 +93,16 @@ impl Arrived<'_> {
     }
 }
 
-// Room for a word's marks, none of them set. A call of its own keeps the array out of its callers' proofs.
-fn no_marks() -> [u8; 255]
-    ensures { result ≡ replicate 255 0 }
-{
-    [0; 255]
-}
-
-// Puts a word's map into its slots of the frame's, which are 0 before. Without changed bits it is all 0, and there is nothing to put.
-fn put_changes(f: Framing, w: usize, bits: u16, changed: &[u8], map: &mut [u8])
-    requires { HasWord f.depth f.n w (length map.old) × Blank f.depth w map.old × Spare bits f.n changed.now }
-    ensures { PutsWord f.depth w changed.now map.old map.new }
-{
-    if bits == 0 {
-        return;
-    }
-    put_word(f.depth, w, changed, map);
-}
-
 // What a frame leaves that is refused once it has been decoded: zeros.
 fn clear(whole: &mut [u8], changed: &mut [u8])
     ensures { (whole.new ≡ replicate (length whole.old) 0) × (changed.new ≡ replicate (length changed.old) 0) }
 {
-    fill(whole, 0);
-    fill(changed, 0);
+    whole.fill(0);
+    changed.fill(0);
 }
 
 // The answer of a frame whose words are all accepted: what its trailer says.
+#[tactic(auto, using(crate::specs::Receiving::settled_bad, crate::specs::Receiving::settled_good))]
 fn settle(
     whole: &mut [u8],
     map: &mut [u8],
@@ -141,6 +124,7 @@ fn settle(
 }
 
 // Decodes a frame that has passed the checks. Its words have one setting, so they have their tables in common.
+#[tactic(auto, using(crate::specs::Receiving::decoded_beyond, crate::specs::Receiving::decoded_settled))]
 fn receive_checked(
     f: Framing,
     slots: &[u8],

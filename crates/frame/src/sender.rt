@@ -9,7 +9,7 @@ ghost use Rattle.frame.specs.Sending.{SendGiven};
 
 use crate::setting::{Framing, SendError, is_allowed};
 use crate::trailer::fill_message;
-use buffers::work_space;
+use buffers::filled;
 use interleave::slots::put_word;
 use word::tables::{Tables, encode_by, prepare};
 
@@ -62,8 +62,8 @@ pub fn send(f: Framing, payload: &[u8], sequence: u16, slots: &mut [u8]) -> Resu
     check_send(f, payload, slots)?;
     let mut tables = Tables::none();
     prepare(f.words(), &mut tables);
-    let mut message = work_space();
-    let mut word = work_space();
+    let mut message: [u8; 255] = filled(0);
+    let mut word: [u8; 255] = filled(0);
     send_words(
         f,
         &tables,
