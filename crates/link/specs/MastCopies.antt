@@ -11,7 +11,9 @@ copied c = copy_of c.slots.now c.marks.now c.area.now c.map.now
 abbrev pub left_in : MastCopy → Left
 left_in c = left_of c.area.now c.map.now
 
--- the same area and map are lent, so that their caller sees what is left in them
+-- the same slots, marks, area and map are lent, so that their caller sees what is left in the last two
 pub record Lent (before after : MastCopy) : Type 0 where
+  pub slots : after.slots ≡ before.slots
+  pub marks : after.marks ≡ before.marks
   pub area : after.area.ghost_name ≡ before.area.ghost_name
   pub map : after.map.ghost_name ≡ before.map.ghost_name

@@ -6,5 +6,5 @@ use Rattle.link.proofs.masts.receive_masts.Goals as goal
 pub returns : goal.returns
 returns c = record {
   received = each_received c.receive-one.ensures c.receive-other.ensures c.choose.ensures;
-  lent = (record { area = refl; map = refl }, record { area = refl; map = refl });
+  lent = (record { slots = refl; marks = refl; area = refl; map = refl }, record { slots = refl; marks = refl; area = refl; map = refl });
 }
