@@ -1,9 +1,10 @@
 -- The block interleaver's calls for C (document 01, Block interleaver and frame): what is seen of an answer, what each call promises, and that no
 -- call has a second answer.
 -- Assumes nothing.
-use Rattle.std.specs.Prelude.{◌≡◌, refl, Result, List, ℕ}
+use Rattle.std.specs.Prelude.{◌≡◌, refl, Result, List, ℕ, length}
+use Rattle.std.proofs.Common.{◌∙◌}
 use Rattle.interleave.specs.Numbers.{block_number, number_of}
-use Rattle.interleave.specs.Block.{Spread, Gather, spread_once, gather_once}
+use Rattle.interleave.specs.Block.{block_refusal, Spread, Gather, spread_once, gather_once, spread_number, gather_number}
 use Rattle.interleave.specs.declared.block.BlockError.{BlockError}
 use Rattle.radio.specs.Shown.{Shows, shown_once}
 
@@ -18,6 +19,15 @@ module _ (J n : ℕ) where
 
   abbrev pub BlockGather : (slots words : List ℕ) → ℕ → List ℕ → Type 0
   BlockGather slots words r left = Shows moved_seen (λ d. Gather J n slots words d left) r
+
+-- ---- the number that is seen is the paper's
+
+module _ (J n : ℕ) where
+  pub block_spread_number : {words slots : List ℕ} {r : ℕ} {left : List ℕ} → BlockSpread J n words slots r left → r ≡ block_refusal J n (length words) (length slots)
+  block_spread_number p = p.same ∙ spread_number J n _ _ p.inner _ p.promised
+
+  pub block_gather_number : {slots words : List ℕ} {r : ℕ} {left : List ℕ} → BlockGather J n slots words r left → r ≡ block_refusal J n (length slots) (length words)
+  block_gather_number p = p.same ∙ gather_number J n _ _ p.inner _ p.promised
 
 -- ---- no second answer: of each call's answer, and of what it leaves in the lent slots or words
 

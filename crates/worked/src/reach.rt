@@ -59,9 +59,7 @@ fn longest() -> Setting {
 }
 
 // A message that has no symbol twice: symbol i is i.
-fn message() -> [u8; 239]
-    ensures { 239 ≡ length result }
-{
+fn message() -> [u8; 239] {
     let mut symbols = [0u8; 239];
     for (i, symbol) in symbols.iter_mut().enumerate() {
         *symbol = i as u8;
@@ -70,9 +68,7 @@ fn message() -> [u8; 239]
 }
 
 // The codeword of that message.
-fn sent() -> [u8; 255]
-    ensures { 255 ≡ length result }
-{
+fn sent() -> [u8; 255] {
     let message = message();
     let mut symbols = [0u8; 255];
     let _ = word::encode(longest(), &message, &mut symbols);
@@ -82,7 +78,6 @@ fn sent() -> [u8; 255]
 // The word with x added at `count` places, each 15 before the next, the last of them the word's last.
 fn struck(word: [u8; 255], count: usize, x: u8) -> [u8; 255]
     requires { count ≤ 16 }
-    ensures { 255 ≡ length result }
 {
     let mut symbols = word;
     for i in 0..count {
@@ -94,7 +89,6 @@ fn struck(word: [u8; 255], count: usize, x: u8) -> [u8; 255]
 // The codeword with so many wrong symbols, three bits in each.
 fn received(count: usize) -> [u8; 255]
     requires { count ≤ 16 }
-    ensures { 255 ≡ length result }
 {
     struck(sent(), count, 7)
 }
@@ -102,7 +96,6 @@ fn received(count: usize) -> [u8; 255]
 // Marks at the same places.
 fn marked(count: usize) -> [u8; 255]
     requires { count ≤ 16 }
-    ensures { 255 ≡ length result }
 {
     struck([0; 255], count, 1)
 }
