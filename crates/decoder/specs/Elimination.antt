@@ -53,16 +53,6 @@ pub record Units (s : ℕ) (v : List ℕ) : Type 0 where
 pub units_none : (v : List ℕ) → length v ≡ 88 → T (below 1 v) → Units 0 v
 units_none v e z = record { size = e; ones = λ i h. absurd (not-suc-le-zero h); zeros = λ i l a b. omega (arith, below_at 1 v z (i * 9 + l) (omega arith)) }
 
-pub units_more : {s : ℕ} {v : List ℕ} → Units s v → s < 9 → Units (s + 1) (set v (s * 10) 1)
-units_more {s} {v} u h = record {
-  size = length-set v (s * 10) 1 ∙ u.size;
-  ones = λ i g. elim (ℕ_discrete i s) [
-    | yes e ↦ rw (e, get_or-set_same v (s * 10) 1 0 (omega (arith, u.size)))
-    | no ne ↦ get_or-set_other v (s * 10) (i * 10) 1 0 (omega arith) ∙ u.ones i (omega arith)
-  ];
-  zeros = λ i l a b. get_or-set_other v (s * 10) (i * 9 + l) 1 0 (omega arith) ∙ u.zeros i l a b;
-}
-
 pub eliminated_none : (m d : ℕ) (sums v : List ℕ) (alive : List Bool) → d ≤ 9 → Units 9 v → alive ≡ replicate 9 true → Eliminated m d sums 0 v alive
 eliminated_none m d sums v alive h u f = record {
   size = u.size;
@@ -87,29 +77,6 @@ pub record Pivot (m d : ℕ) (sums : List ℕ) (j : ℕ) (v : List ℕ) (alive :
   pub misses : s < d → row_dot m d v (s * 9) sums j % 2 ^ wide m ≢ 0
 
 module _ {m d : ℕ} {sums : List ℕ} {j : ℕ} {v : List ℕ} {alive : List Bool} where
-  pub passed_none : Passed m d sums j v alive 0
-  passed_none = record { within = omega arith; before = λ i h. absurd (not-suc-le-zero h) }
-
-  passed_more : {s : ℕ} → Passed m d sums j v alive s → s < d → (Alive alive s → row_dot m d v (s * 9) sums j % 2 ^ wide m ≡ 0) → Passed m d sums j v alive (s + 1)
-  passed_more {s} p h f = record {
-    within = omega arith;
-    before = λ i g a. elim (ℕ_discrete i s) [ yes e ↦ rw e (f (rw e at a)) | no ne ↦ p.before i (omega arith) a ];
-  }
-
-  pub passed_dead : {s : ℕ} → Passed m d sums j v alive s → s < d → ¬ Alive alive s → Passed m d sums j v alive (s + 1)
-  passed_dead p h e = passed_more p h λ a. absurd (e a)
-
-  -- y is the product of the vector s and the window, and z what counts of it
-  module _ {s y z : ℕ} (p : Passed m d sums j v alive s) (h : s < d) (e : y ≡ row_dot m d v (s * 9) sums j) (f : z ≡ y % 2 ^ wide m) where
-    pub passed_zero : z ≡ 0 → Passed m d sums j v alive (s + 1)
-    passed_zero g = passed_more p h λ a. rw (← e, ← f) g
-
-    pub pivot_found : Alive alive s → z ≢ 0 → Pivot m d sums j v alive s
-    pivot_found a g = record { passed = p; lives = λ l. a; misses = λ l n. g (f ∙ rw (← e) at n) }
-
-  pub pivot_none : {s : ℕ} → Passed m d sums j v alive s → d ≤ s → Pivot m d sums j v alive s
-  pivot_none p h = record { passed = p; lives = λ l. absurd (omega arith); misses = λ l. absurd (omega arith) }
-
   -- those that were passed stay as they are
   kept : {s : ℕ} → Eliminated m d sums j v alive → Passed m d sums j v alive s → (i : ℕ) → i < s → Alive alive i → Vec m d sums (suc j) v i
   unfolding row_dot
@@ -166,9 +133,6 @@ module _ {m d : ℕ} {sums : List ℕ} {j : ℕ} {v : List ℕ} {alive : List Bo
       misses = τ.misses;
       many = τ.many;
     }
-
-    pub eliminated_more : d ≤ s → Eliminated m d sums (j + 1) v alive
-    eliminated_more h = rw add-one record { size = τ.size; flags = τ.flags; fine = λ i g. τ.past i (omega arith); many = τ.many }
 
     -- one that is: the pivot goes into it
     module _ {y : ℕ} {w : List ℕ} (h : s < d) (few : d ≤ 9) (a : Alive alive s) (e : y ≡ row_dot m d v (s * 9) sums j) (κ : Combined m (s * 9) (p * 9) d x y v w) where
