@@ -2,7 +2,7 @@
 -- leave, for every input. Each argument stands where it stands in the call.
 -- Assumes nothing.
 use Rattle.std.proofs.Math.Option.{Option, some, none}
-use Rattle.std.specs.Prelude.{List, ℕ, ◌^◌, length, take}
+use Rattle.std.specs.Prelude.{List, ℕ, ◌^◌, length, take, Result, Ok, Err}
 use Rattle.std.proofs.Math.Decide.{ℕ_discrete}
 use Rattle.algebra.specs.Tests.{below}
 use Rattle.algebra.specs.Refusal.{need, if_zero, passes}
@@ -12,42 +12,51 @@ use Rattle.word.specs.Map.{changes, unchanged}
 use Rattle.word.specs.Code.{encoded, corrected}
 use Rattle.word.specs.declared.Setting.{Setting}
 use Rattle.word.specs.declared.Figures.{Figures}
-use Rattle.word.specs.declared.Decoded.{Decoded}
-use Rattle.word.specs.declared.Decoded.TheVariants.{Done, BadSetting, BadLength, BadSymbol, BeyondReach}
-use Rattle.word.specs.declared.Encoded.{Encoded}
-use Rattle.word.specs.declared.Encoded.TheVariants as E
+use Rattle.word.specs.declared.InputError.{InputError}
+use Rattle.word.specs.declared.InputError.TheVariants as I
+use Rattle.word.specs.declared.DecodeError.{DecodeError}
+use Rattle.word.specs.declared.DecodeError.TheVariants.{BadSetting, BadLength, BadSymbol, BeyondReach}
 
 -- ---- the code's answers in this paper's terms
 
-abbrev pub number_of : Decoded → ℕ
-number_of (Done f) = 0
-number_of BadSetting = 1
-number_of BadLength = 2
-number_of BadSymbol = 3
-number_of BeyondReach = 4
+abbrev pub input_number : InputError → ℕ
+input_number I.BadSetting = 1
+input_number I.BadLength = 2
+input_number I.BadSymbol = 3
+
+abbrev pub decode_number : DecodeError → ℕ
+decode_number BadSetting = 1
+decode_number BadLength = 2
+decode_number BadSymbol = 3
+decode_number BeyondReach = 4
+
+-- a refused input, as decoding refuses it
+abbrev pub decode_error : InputError → DecodeError
+decode_error I.BadSetting = BadSetting
+decode_error I.BadLength = BadLength
+decode_error I.BadSymbol = BadSymbol
+
+abbrev pub number_of : Result Figures DecodeError → ℕ
+number_of (Ok f) = 0
+number_of (Err e) = decode_number e
 
 abbrev pub no_figures : Figures
 no_figures = record { errors = 0; marked = 0; bits = 0 }
 
-abbrev pub figures_of : Decoded → Figures
-figures_of (Done f) = f
-figures_of BadSetting = no_figures
-figures_of BadLength = no_figures
-figures_of BadSymbol = no_figures
-figures_of BeyondReach = no_figures
+abbrev pub figures_of : Result Figures DecodeError → Figures
+figures_of (Ok f) = f
+figures_of (Err e) = no_figures
 
-abbrev pub encoded_number : Encoded → ℕ
-encoded_number E.Done = 0
-encoded_number E.BadSetting = 1
-encoded_number E.BadLength = 2
-encoded_number E.BadSymbol = 3
+abbrev pub encoded_number : Result Unit InputError → ℕ
+encoded_number (Ok u) = 0
+encoded_number (Err e) = input_number e
 
 -- what `encode` answers, with the word that it leaves
 pub record EncodeOutcome : Type 0 where
   pub number : ℕ
   pub word : List ℕ
 
-abbrev pub encode_outcome : Encoded → List ℕ → EncodeOutcome
+abbrev pub encode_outcome : Result Unit InputError → List ℕ → EncodeOutcome
 encode_outcome d left = record { number = encoded_number d; word = left }
 
 -- what `decode` and `decode_part` answer, with the word or part and the map that they leave
@@ -57,7 +66,7 @@ pub record DecodeOutcome : Type 0 where
   pub word : List ℕ
   pub map : List ℕ
 
-abbrev pub decode_outcome : Decoded → (left map : List ℕ) → DecodeOutcome
+abbrev pub decode_outcome : Result Figures DecodeError → (left map : List ℕ) → DecodeOutcome
 decode_outcome d left map = record { number = number_of d; figures = figures_of d; word = left; map = map }
 
 abbrev pub refused : ℕ → (lent map : List ℕ) → DecodeOutcome

@@ -1,6 +1,6 @@
 -- How a word is corrected: what the steps have made, what they promise together, and the laws for each way out.
 -- Assumes nothing.
-use Rattle.std.specs.Prelude.{◌≡◌, refl, true, false, ◌≢◌, List, ◌++◌, ℕ, suc, ◌+◌, ◌-◌, ◌*◌, ◌/◌, ◌≤◌, ◌<◌, T, length, take}
+use Rattle.std.specs.Prelude.{◌≡◌, refl, true, false, List, ◌++◌, ℕ, suc, ◌+◌, ◌-◌, ◌*◌, ◌/◌, ◌≤◌, ◌<◌, T, length, take, Option, Some, None, Result, Ok, Err}
 use Rattle.std.proofs.Common.{sym, ap, ◌∙◌, subst, arith, take-take}
 use Rattle.std.proofs.Math.Option.{some, none}
 use Rattle.std.proofs.Math.Seq.{take-length, take-append_seam}
@@ -16,7 +16,7 @@ use Rattle.word.specs.Map.Laws.{changes_front}
 use Rattle.word.specs.Codeword.{qualifies, Codeword, in_reach, is_in_reach}
 use Rattle.word.specs.Code.{corrected}
 use Rattle.word.specs.Code.Laws.{corrected_only, corrected_none}
-use Rattle.word.specs.Answers.{number_of, figures}
+use Rattle.word.specs.Answers.{figures}
 use Rattle.word.specs.Refusals.{Checked}
 use Rattle.word.specs.Setting.{limits}
 use Rattle.word.specs.Looking.{Measured}
@@ -28,9 +28,8 @@ use Rattle.decoder.specs.Corrections.{Corrected}
 use Rattle.word.specs.Solution.{solved, left_zero, made_codeword}
 use Rattle.word.specs.declared.Setting.{Setting}
 use Rattle.word.specs.declared.Figures.{Figures}
-use Rattle.word.specs.declared.Decoded.{Decoded}
-use Rattle.word.specs.declared.Decoded.TheVariants.{Done, BeyondReach}
-use Rattle.word.specs.declared.correct.Correction.{Correction}
+use Rattle.word.specs.declared.DecodeError.{DecodeError}
+use Rattle.word.specs.declared.DecodeError.TheVariants.{BeyondReach}
 
 -- what the steps have made on the way to the word after them
 pub record Steps (s : Setting) (marks : List ℕ) (f : ℕ) (sums before after rest : List ℕ) : Type 0 where
@@ -42,11 +41,6 @@ pub record Steps (s : Setting) (marks : List ℕ) (f : ℕ) (sums before after r
   pub are_candidates : Candidates s.m s.n marks vector (suc ((s.r - f) / 2)) flags
   pub are_corrected : Corrected s.m s.n s.b flags sums before after rest
 
--- a codeword was found, with these figures
-pub record FoundWith (e f b : ℕ) (r : Correction) : Type 0 where
-  pub found : r.found ≡ true
-  pub figures : r.figures ≡ record { errors = e; marked = f; bits = b }
-
 -- what is known of a received word once its marks are counted and its power sums taken
 pub record Summed (s : Setting) (marks received : List ℕ) (f : ℕ) (sums : List ℕ) : Type 0 where
   pub checked : Checked s marks received
@@ -55,20 +49,24 @@ pub record Summed (s : Setting) (marks received : List ℕ) (f : ℕ) (sums : Li
   pub measured : Rep (K s.m) (spots s.m s.n s.b) s.r (λ j. at sums j) (coef (K s.m) received)
 
 -- a codeword was found, it is in out, and the figures are its own; or there is none
-pub record Corrects (s : Setting) (marks received out : List ℕ) (r : Correction) : Type 0 where
+pub record Corrects (s : Setting) (marks received out : List ℕ) (r : Option Figures) : Type 0 where
   pub size : length out ≡ s.n
-  pub found : r.found ≡ true → (corrected s marks received ≡ some out) × (r.figures ≡ figures marks received out)
-  pub lost : r.found ≡ false → corrected s marks received ≡ none
+  pub found : (f : Figures) → r ≡ Some f → (corrected s marks received ≡ some out) × (f ≡ figures marks received out)
+  pub lost : r ≡ None → corrected s marks received ≡ none
 
 different : true ≡ false → ⊥
 different e = let z : ◌≡◌ {A = ℕ} 0 1 = cc in omega arith
 
 module _ (s : Setting) (marks received : List ℕ) (ch : Checked s marks received) where
-  corrects_none : (out : List ℕ) (r : Correction) → length out ≡ s.n → r.found ≡ false → ((c : List ℕ) → T (qualifies s marks received c) → ⊥) → Corrects s marks received out r
-  corrects_none out r n e h = record { size = n; found = λ g. absurd (different (sym g ∙ e)); lost = λ g. corrected_none s marks received h }
+  corrects_none : (out : List ℕ) → length out ≡ s.n → ((c : List ℕ) → T (qualifies s marks received c) → ⊥) → Corrects s marks received out None
+  corrects_none out n h = record { size = n; found = λ f g. absurd cc; lost = λ g. corrected_none s marks received h }
 
-  corrects_found : (out : List ℕ) (r : Correction) → length out ≡ s.n → r.found ≡ true → r.figures ≡ figures marks received out → T (qualifies s marks received out) → Corrects s marks received out r
-  corrects_found out r n e g q = record { size = n; found = λ h. (corrected_only s ch.setting marks received ch.size out q, g); lost = λ h. absurd (different (sym e ∙ h)) }
+  corrects_found : (out : List ℕ) (f : Figures) → length out ≡ s.n → f ≡ figures marks received out → T (qualifies s marks received out) → Corrects s marks received out (Some f)
+  corrects_found out f n e q = record {
+    size = n;
+    found = λ g h. (corrected_only s ch.setting marks received ch.size out q, (let same : f ≡ g = cc in sym same ∙ e));
+    lost = λ h. absurd cc;
+  }
 
   module _ (f : ℕ) (ef : f ≡ marked marks received) (few : f ≤ s.r) (S : List ℕ)
       (sums : Rep (K s.m) (spots s.m s.n s.b) s.r (λ j. at S j) (coef (K s.m) received)) where
@@ -88,22 +86,22 @@ module _ (s : Setting) (marks received : List ℕ) (ch : Checked s marks receive
           solved s marks received ch t lo hi S rep.peeled rep.vector rep.flags out rest sums rep.is_peeled rep.is_kernel rep.are_candidates rep.are_corrected c (in_reach s marks received c q)
 
       -- what is left does not vanish
-      pub lost_left : (r : Correction) → all_zero s.m s.r rest ≡ false → r.found ≡ false → Corrects s marks received out r
-      lost_left r z g = corrects_none out r rep.are_corrected.size g λ c q.
+      pub lost_left : all_zero s.m s.r rest ≡ false → Corrects s marks received out None
+      lost_left z = corrects_none out rep.are_corrected.size λ c q.
           different (sym (all_zero_yes s.m s.r rest
           (left_zero s marks received ch t lo hi S rep.peeled rep.vector rep.flags out rest sums rep.is_peeled rep.is_kernel rep.are_candidates rep.are_corrected
           (subst (Codeword s) (sym (made c q)) (in_reach s marks received c q).code))) ∙ z)
 
       -- too many wrong symbols
-      pub lost_far : (r : Correction) (e : ℕ) → e ≡ errors marks received out → s.r < 2 * e + f → r.found ≡ false → Corrects s marks received out r
-      lost_far r e ee l g = corrects_none out r rep.are_corrected.size g λ c q.
+      pub lost_far : (e : ℕ) → e ≡ errors marks received out → s.r < 2 * e + f → Corrects s marks received out None
+      lost_far e ee l = corrects_none out rep.are_corrected.size λ c q.
           let bound : 2 * errors marks received out + marked marks received ≤ s.r = rw (made c q) (in_reach s marks received c q).bound in
           omega arith
 
-      pub found_corrected : (r : Correction) (e : ℕ) → e ≡ errors marks received out → 2 * e + f ≤ s.r → all_zero s.m s.r rest ≡ true
-          → (b : ℕ) → b ≡ bits received out → FoundWith e f b r → Corrects s marks received out r
-      found_corrected r e ee l z b eb g =
-          corrects_found out r rep.are_corrected.size g.found (g.figures ∙ rw (ee, ef, eb))
+      pub found_corrected : (e : ℕ) → e ≡ errors marks received out → 2 * e + f ≤ s.r → all_zero s.m s.r rest ≡ true
+          → (b : ℕ) → b ≡ bits received out → (g : Figures) → g ≡ record { errors = e; marked = f; bits = b } → Corrects s marks received out (Some g)
+      found_corrected e ee l z b eb g eg =
+          corrects_found out g rep.are_corrected.size (eg ∙ rw (ee, ef, eb))
           (is_in_reach s marks received out (record {
             code = made_codeword s marks received ch t lo hi S rep.peeled rep.vector rep.flags out rest sums rep.is_peeled rep.is_kernel rep.are_candidates rep.are_corrected (all_zero_at _ _ rest z);
             bound = omega arith;
@@ -111,7 +109,7 @@ module _ (s : Setting) (marks received : List ℕ) (ch : Checked s marks receive
 
 -- ---- the word in a longer buffer
 
-pub corrects_front : (s : Setting) (marks received out rest : List ℕ) (r : Correction) → Corrects s marks received out r → Corrects s marks received (take s.n (out ++ rest)) r
+pub corrects_front : (s : Setting) (marks received out rest : List ℕ) (r : Option Figures) → Corrects s marks received out r → Corrects s marks received (take s.n (out ++ rest)) r
 corrects_front s marks received out rest r h = subst (λ (w : List ℕ). Corrects s marks received w r) (sym (ap (λ (k : ℕ). take k (out ++ rest)) (sym h.size) ∙ take-append_seam out rest)) h
 
 -- ---- a copy that fills its target
@@ -137,17 +135,17 @@ summed s marks received rest f sums h e = record {
 
 -- an accepted word's correction is at the front of the work space, and goes where `decode` or `decode_part` places it; its map is written, and
 -- that of a refused word is left
-pub record Answered (s : Setting) (received marks map work : List ℕ) (d : Decoded) (left_map : List ℕ) : Type 0 where
+pub record Answered (s : Setting) (received marks map work : List ℕ) (d : Result Figures DecodeError) (left_map : List ℕ) : Type 0 where
   pub size : length work ≡ 255
-  pub refused : number_of d ≢ 0 → (d ≡ BeyondReach) × (corrected s marks received ≡ none) × (left_map ≡ map)
-  pub done : number_of d ≡ 0 → (d ≡ Done (figures marks received (take s.n work))) × (corrected s marks received ≡ some (take s.n work)) × (left_map ≡ changes received (take s.n work))
+  pub refused : (e : DecodeError) → d ≡ Err e → (e ≡ BeyondReach) × (corrected s marks received ≡ none) × (left_map ≡ map)
+  pub done : (f : Figures) → d ≡ Ok f → (f ≡ figures marks received (take s.n work)) × (corrected s marks received ≡ some (take s.n work)) × (left_map ≡ changes received (take s.n work))
 
 module _ (s : Setting) (received marks map work : List ℕ) (n : length work ≡ 255) where
-  pub answered_none : corrected s marks received ≡ none → Answered s received marks map work BeyondReach map
-  answered_none g = record { size = n; refused = λ _. (refl, g, refl); done = λ e. absurd (omega arith) }
+  pub answered_none : corrected s marks received ≡ none → Answered s received marks map work (Err BeyondReach) map
+  answered_none g = record { size = n; refused = λ e h. ((let same : BeyondReach ≡ e = cc in sym same), g, refl); done = λ f e. absurd cc }
 
   pub answered_found : (f : Figures) (u : List ℕ) → corrected s marks received ≡ some (take s.n work) → f ≡ figures marks received (take s.n work) → length received ≡ s.n → u ≡ changes received work
-      → Answered s received marks map work (Done f) u
+      → Answered s received marks map work (Ok f) u
   answered_found f u g h e m =
       let front : changes received work ≡ changes received (take s.n work) = sym (changes_front received work) ∙ ap (λ (k : ℕ). changes received (take k work)) e in
-      record { size = n; refused = λ ne. absurd (ne refl); done = λ _. (ap Done h, g, m ∙ front) }
+      record { size = n; refused = λ e h. absurd cc; done = λ k e. ((let same : f ≡ k = cc in sym same ∙ h), g, m ∙ front) }

@@ -1,10 +1,9 @@
 // How a word is corrected: the codeword with 2e + f ≤ r is found by peeling (docs/ARCHITECTURE.md), or there is none.
-ghost use Rattle.std.specs.Prelude.{◌≡◌, false, ◌*◌, ◌≤◌, length};
+ghost use Rattle.std.specs.Prelude.{◌≡◌, ◌≤◌, length};
 ghost use Rattle.word.specs.Looking.{Measured};
-ghost use Rattle.word.specs.Correcting.{Steps, FoundWith, Summed, Corrects};
+ghost use Rattle.word.specs.Correcting.{Steps, Summed, Corrects};
 
-use crate::count::{count_bits, count_errors};
-use crate::numbers::no_figures;
+use crate::count::{count_bits, count_errors, figures};
 use crate::{Figures, Setting};
 use buffers::copy;
 use checks::syndrome::{all_zero, syndromes};
@@ -12,38 +11,6 @@ use decoder::correct::correct;
 use decoder::kernel::kernel;
 use decoder::locate::{candidates, locators};
 use decoder::peel::peel_all;
-
-// Whether a codeword was found, and its figures.
-#[derive(Drop)]
-pub struct Correction {
-    pub found: bool,
-    pub figures: Figures,
-}
-
-// No codeword qualifies.
-fn none_found() -> Correction
-    ensures { result.found ≡ false }
-{
-    Correction {
-        found: false,
-        figures: no_figures(),
-    }
-}
-
-// The answer for a word that was found: its e wrong symbols, f marks and changed bits.
-fn found(e: usize, f: usize, bits: usize) -> Correction
-    requires { (e ≤ 255) × (f ≤ 255) × (bits ≤ 8 * 255) }
-    ensures { FoundWith e f bits result }
-{
-    Correction {
-        found: true,
-        figures: Figures {
-            errors: e as u16,
-            marked: f as u16,
-            bits: bits as u16,
-        },
-    }
-}
 
 // Corrects every candidate place of a word with these power sums, f of whose places are marked, and gives the power sums that are left.
 fn correct_places(s: Setting, marks: &[u8], f: usize, sums: [u8; 16], word: &mut [u8]) -> [u8; 16]
@@ -60,7 +27,8 @@ fn correct_places(s: Setting, marks: &[u8], f: usize, sums: [u8; 16], word: &mut
     correct(m, n, s.b, &locators, &flags, sums, word)
 }
 
-// Corrects the received word in `out`, which is no codeword, to the one with 2e + f ≤ r, where there is one.
+// Corrects the received word in `out`, which is no codeword, to the one with 2e + f ≤ r, where there is one, and gives its figures.
+#[tactic(auto, using(crate::specs::Setting::in_limits))]
 fn correct_errors(
     s: Setting,
     received: &[u8],
@@ -68,23 +36,24 @@ fn correct_errors(
     f: usize,
     sums: [u8; 16],
     out: &mut [u8],
-) -> Correction
+) -> Option<Figures>
     requires { Summed s marks.now received.now f sums × (out.old ≡ received.now) }
     ensures { Corrects s marks.now received.now out.new result }
 {
     let rest = correct_places(s, marks, f, sums, out);
     if !all_zero(s.m, rest, s.r) {
-        return none_found();
+        return None;
     }
     let e = count_errors(marks, received, out);
     if s.r < 2 * e + f {
-        return none_found();
+        return None;
     }
-    found(e, f, count_bits(received, out))
+    Some(figures(e, f, count_bits(received, out)))
 }
 
-// Puts the codeword with 2e + f ≤ r into `out`, where there is one. The syndromes are taken of what the word leaves over, which has at most
+// Puts the codeword with 2e + f ≤ r into `out`, where there is one, and gives its figures. The syndromes are taken of what the word leaves over, which has at most
 // sixteen symbols.
+#[tactic(auto, using(crate::specs::Setting::in_limits))]
 pub fn correct_word(
     s: Setting,
     f: usize,
@@ -92,12 +61,12 @@ pub fn correct_word(
     received: &[u8],
     marks: &[u8],
     out: &mut [u8],
-) -> Correction
+) -> Option<Figures>
     requires { Measured s marks.now received.now f rest × (length out.old ≡ s.n) }
     ensures { Corrects s marks.now received.now out.new result }
 {
     copy(received, out);
     let r = s.r;
-    let sums = syndromes(s.m, s.b, &rest[0..r]);
+    let sums = syndromes(s.m, s.b, &rest[..r]);
     correct_errors(s, received, marks, f, sums, out)
 }

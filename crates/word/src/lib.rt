@@ -1,6 +1,6 @@
-// The word code: document 01, section Word code. A word of n symbols is encoded from its k message symbols, and a received one is
-// corrected in place, or its message handed to a part of an area, or only asked whether it is a codeword. Every call checks its own input, in the paper's order. What each promises is
-// defined in specs/, in the paper's order.
+// The word code: document 01, section Word code. A word of n symbols is encoded from its k message symbols, and a received one is corrected
+// in place, or its message handed to a part of an area, or only asked whether it is a codeword. Every call checks its own input, in the
+// paper's order. What each promises is defined in specs/, in the paper's order.
 #![tactic(auto)]
 
 pub mod clean;
@@ -12,23 +12,21 @@ pub mod map;
 pub mod numbers;
 pub mod tables;
 
-ghost use Rattle.std.specs.Prelude.{◌≡◌, ◌<◌, ◌≤◌, length};
-ghost use Rattle.word.specs.Answers.{encoded_number};
+ghost use Rattle.std.specs.Prelude.{◌≡◌, length};
+ghost use Rattle.word.specs.Answers.{decode_error};
 ghost use Rattle.word.specs.Promises.{Encodes, Decodes, DecodesPart};
 ghost use Rattle.word.specs.Setting.{message_size};
-ghost use Rattle.word.specs.Met.{Refuses};
 ghost use Rattle.word.specs.Looking.{Measured, Looked};
 ghost use Rattle.word.specs.Correcting.{Answered};
 
-use buffers::{copy, fill, join, work_space};
+use buffers::{copy, fill, filled, join};
 use checks::register::check_symbols;
-pub use clean::{Clean, is_clean};
+pub use clean::is_clean;
 use correct::correct_word;
 pub use limits::is_allowed;
-use limits::{decode_refusal, encode_refusal, part_refusal};
-use look::{Look, clean_figures, look_at};
+use limits::{check_message, check_part, check_received};
+use look::{Look, look_alone};
 use map::note_changes;
-use numbers::number_of;
 
 // What a word code is set to: m bits a symbol, n symbols a word, r check symbols, and b, the power of a at which its zeros start.
 #[derive(Clone, Copy)]
@@ -41,75 +39,55 @@ pub struct Setting {
 
 // What an accepted word was found to have: unmarked wrong symbols, marked ones, and changed bits. It goes to C as it is.
 #[repr(C)]
-#[derive(Clone, Copy)]
+#[derive(Clone, Copy, Debug, Default, PartialEq, Eq)]
 pub struct Figures {
     pub errors: u16,
     pub marked: u16,
     pub bits: u16,
 }
 
-// What decoding answers. Its numbers are the paper's 0 to 4, in this order.
-#[derive(Clone, Copy)]
-pub enum Decoded {
-    Done(Figures),
+// Why what a call is lent is refused before any work. The paper's numbers are 1 to 3, in this order.
+#[derive(Clone, Copy, Debug, PartialEq, Eq)]
+pub enum InputError {
+    BadSetting,
+    BadLength,
+    BadSymbol,
+}
+
+// Why decoding refuses a word. The paper's numbers are 1 to 4, in this order.
+#[derive(Clone, Copy, Debug, PartialEq, Eq)]
+pub enum DecodeError {
     BadSetting,
     BadLength,
     BadSymbol,
     BeyondReach,
 }
 
-// What encoding answers. Its numbers are the paper's 0 to 3, in this order.
-#[derive(Clone, Copy)]
-pub enum Encoded {
-    Done,
-    BadSetting,
-    BadLength,
-    BadSymbol,
-}
+impl From<InputError> for DecodeError {
+    ghost from_gives = { λ e d. d ≡ decode_error e };
 
-// The encoder's answer for a check that failed.
-fn encode_refused(number: u8) -> Encoded
-    requires { (0 < number) × (number ≤ 3) }
-    ensures { encoded_number result ≡ number }
-{
-    if number == 1 {
-        return Encoded::BadSetting;
+    fn from(e: InputError) -> DecodeError {
+        match e {
+            InputError::BadSetting => DecodeError::BadSetting,
+            InputError::BadLength => DecodeError::BadLength,
+            InputError::BadSymbol => DecodeError::BadSymbol,
+        }
     }
-    if number == 2 {
-        return Encoded::BadLength;
-    }
-    Encoded::BadSymbol
 }
 
 // Puts the k message symbols and the check symbols that make them a codeword into the word of n symbols.
 // Refused 1 for the setting, 2 for a length, 3 for a message symbol of 2^m or more; the word is then left as it was.
-pub fn encode(s: Setting, message: &[u8], word: &mut [u8]) -> Encoded
+pub fn encode(s: Setting, message: &[u8], word: &mut [u8]) -> Result<(), InputError>
     ensures { Encodes s message.now word.old result word.new }
 {
-    let number = encode_refusal(s, message, word);
-    if number != 0 {
-        return encode_refused(number);
-    }
+    check_message(s, message, word)?;
     let checks = check_symbols(s.m, s.b, s.r, message);
     join(message, &checks, word);
-    Encoded::Done
-}
-
-// The decoder's answer for a check that failed.
-fn decode_refused(number: u8) -> Decoded
-    requires { (0 < number) × (number ≤ 3) }
-    ensures { Refuses number result }
-{
-    if number == 1 {
-        return Decoded::BadSetting;
-    }
-    if number == 2 {
-        return Decoded::BadLength;
-    }
-    Decoded::BadSymbol
+    Ok(())
 }
 
 // What a damaged word is answered: its correction is put at the front of the work space and its map is written, where there is one.
+#[tactic(auto, using(crate::specs::Setting::in_limits))]
 fn answer(
     s: Setting,
     f: usize,
@@ -118,43 +96,46 @@ fn answer(
     marks: &[u8],
     work: &mut [u8],
     map: &mut [u8],
-) -> Decoded
+) -> Result<Figures, DecodeError>
     requires { Measured s marks.now received.now f rest × (length work.old ≡ 255) × (length map.old ≡ s.n) }
     ensures { Answered s received.now marks.now map.old work.new result map.new }
 {
     let n = s.n;
-    let correction = correct_word(s, f, rest, received, marks, &mut work[0..n]);
-    if !correction.found {
-        return Decoded::BeyondReach;
-    }
+    let figures = correct_word(s, f, rest, received, marks, &mut work[..n]).ok_or(
+        DecodeError::BeyondReach,
+    )?;
     note_changes(received, work, map);
-    let figures = correction.figures;
-    Decoded::Done(figures)
+    Ok(figures)
 }
 
 // Corrects a word that has been looked at where it stands. Nothing but the map is written unless it is damaged.
-fn in_place(s: Setting, seen: Look, word: &mut [u8], marks: &[u8], map: &mut [u8]) -> Decoded
+#[tactic(auto, using(crate::specs::Setting::in_limits))]
+fn in_place(
+    s: Setting,
+    seen: Look,
+    word: &mut [u8],
+    marks: &[u8],
+    map: &mut [u8],
+) -> Result<Figures, DecodeError>
     requires { Looked s marks.now word.old seen × (length map.old ≡ s.n) }
     ensures { Decodes s word.old marks.now map.old result word.new map.new }
 {
     fill(map, 0);
-    if seen.lost {
-        return Decoded::BeyondReach;
+    match seen {
+        Look::Lost => Err(DecodeError::BeyondReach),
+        Look::Clean(figures) => Ok(figures),
+        Look::Damaged { marked, rest } => {
+            let mut work: [u8; 255] = filled(0);
+            let figures = answer(s, marked, rest, word, marks, &mut work, map)?;
+            copy(&work, word);
+            Ok(figures)
+        }
     }
-    if seen.clean {
-        return Decoded::Done(clean_figures(seen.marked));
-    }
-    let rest = seen.rest;
-    let mut work = work_space();
-    let d = answer(s, seen.marked, rest, word, marks, &mut work, map);
-    if number_of(d) != 0 {
-        return d;
-    }
-    copy(&work, word);
-    d
 }
 
-// The same with the message put into a part of its own, and the received word only read.
+// The same with the message put into a part of its own, and the received word only read. A function of its own, since `in_place` reads what it
+// writes, and leaves a clean word uncopied.
+#[tactic(auto, using(crate::specs::Setting::in_limits))]
 fn to_part(
     s: Setting,
     seen: Look,
@@ -162,40 +143,40 @@ fn to_part(
     marks: &[u8],
     part: &mut [u8],
     map: &mut [u8],
-) -> Decoded
+) -> Result<Figures, DecodeError>
     requires { Looked s marks.now received.now seen × (length part.old ≡ message_size s) × (length map.old ≡ s.n) }
     ensures { DecodesPart s received.now marks.now part.old map.old result part.new map.new }
 {
     fill(map, 0);
-    if seen.lost {
-        return Decoded::BeyondReach;
+    match seen {
+        Look::Lost => Err(DecodeError::BeyondReach),
+        Look::Clean(figures) => {
+            copy(received, part);
+            Ok(figures)
+        }
+        Look::Damaged { marked, rest } => {
+            let mut work: [u8; 255] = filled(0);
+            let figures = answer(s, marked, rest, received, marks, &mut work, map)?;
+            copy(&work, part);
+            Ok(figures)
+        }
     }
-    if seen.clean {
-        copy(received, part);
-        return Decoded::Done(clean_figures(seen.marked));
-    }
-    let rest = seen.rest;
-    let mut work = work_space();
-    let d = answer(s, seen.marked, rest, received, marks, &mut work, map);
-    if number_of(d) != 0 {
-        return d;
-    }
-    copy(&work, part);
-    d
 }
 
 // Corrects a received word where it stands to the codeword with 2e + f ≤ r; its marks are only read. The map gets 1 where the word was
 // changed, and 0 elsewhere.
 // Refused 1 for the setting, 2 for a length, 3 for a symbol of 2^m or more or a mark above 1, and 4 where no codeword qualifies; the
 // word is then left as it was. The map is all 0 under 4, and left as it was under 1, 2 and 3.
-pub fn decode(s: Setting, word: &mut [u8], marks: &[u8], map: &mut [u8]) -> Decoded
+pub fn decode(
+    s: Setting,
+    word: &mut [u8],
+    marks: &[u8],
+    map: &mut [u8],
+) -> Result<Figures, DecodeError>
     ensures { Decodes s word.old marks.now map.old result word.new map.new }
 {
-    let number = decode_refusal(s, word, marks, map);
-    if number != 0 {
-        return decode_refused(number);
-    }
-    let seen = look_at(s, word, marks);
+    check_received(s, word, marks, map)?;
+    let seen = look_alone(s, word, marks);
     in_place(s, seen, word, marks, map)
 }
 
@@ -207,13 +188,10 @@ pub fn decode_part(
     marks: &[u8],
     part: &mut [u8],
     map: &mut [u8],
-) -> Decoded
+) -> Result<Figures, DecodeError>
     ensures { DecodesPart s received.now marks.now part.old map.old result part.new map.new }
 {
-    let number = part_refusal(s, received, marks, part, map);
-    if number != 0 {
-        return decode_refused(number);
-    }
-    let seen = look_at(s, received, marks);
+    check_part(s, received, marks, part, map)?;
+    let seen = look_alone(s, received, marks);
     to_part(s, seen, received, marks, part, map)
 }

@@ -1,11 +1,11 @@
 // The checks that every call makes before it looks at a word: document 01's refusals 1, 2 and 3, in that order.
-ghost use Rattle.std.specs.Prelude.{◌≡◌, ◌^◌, ◌≤◌};
+ghost use Rattle.std.specs.Prelude.{◌≡◌, ◌^◌};
 ghost use Rattle.field.specs.Elements.{wide};
 ghost use Rattle.word.specs.Setting.{allowed};
-ghost use Rattle.word.specs.Answers.{encode_refusal, decode_refusal, part_refusal};
+ghost use Rattle.word.specs.Answers.{encoded_number, encode_refusal, decode_refusal, part_refusal};
 ghost use Rattle.word.specs.Clean.{clean_refusal};
 
-use crate::Setting;
+use crate::{InputError, Setting};
 use buffers::all_below;
 use field::is_field;
 
@@ -13,106 +13,84 @@ use field::is_field;
 pub fn symbols_of(m: usize) -> usize
     ensures { result ≡ 2 ^ wide m }
 {
-    if m == 3 {
-        return 8;
-    }
-    256
+    if m == 3 { 8 } else { 256 }
 }
 
 // Whether a setting keeps the limits.
 pub fn is_allowed(s: Setting) -> bool
     ensures { result ≡ allowed s }
 {
-    if !is_field(s.m) {
-        return false;
-    }
-    if s.r < 2 {
-        return false;
-    }
-    if 16 < s.r {
-        return false;
-    }
-    if s.n <= s.r {
-        return false;
-    }
-    if 1 < s.b {
-        return false;
-    }
-    if symbols_of(s.m) <= s.n {
-        return false;
-    }
-    true
+    is_field(s.m) && 2 <= s.r && s.r <= 16 && s.r < s.n && s.n < symbols_of(s.m) && s.b <= 1
 }
 
-// The number by which a message and the word that it is to become are refused, or 0.
-pub fn encode_refusal(s: Setting, message: &[u8], word: &[u8]) -> u8
-    ensures { (result ≡ encode_refusal s message.now word.now) × (result ≤ 3) }
+// Checks a message, and the room for the word that it is to become.
+pub fn check_message(s: Setting, message: &[u8], word: &[u8]) -> Result<(), InputError>
+    ensures { encoded_number result ≡ encode_refusal s message.now word.now }
 {
     if !is_allowed(s) {
-        return 1;
+        return Err(InputError::BadSetting);
     }
-    if message.len() != s.n - s.r {
-        return 2;
-    }
-    if word.len() != s.n {
-        return 2;
+    if message.len() != s.n - s.r || word.len() != s.n {
+        return Err(InputError::BadLength);
     }
     if !all_below(message, symbols_of(s.m)) {
-        return 3;
+        return Err(InputError::BadSymbol);
     }
-    0
+    Ok(())
 }
 
-// The number by which a received word, its marks and the room for its map are refused, or 0.
-pub fn decode_refusal(s: Setting, received: &[u8], marks: &[u8], map: &[u8]) -> u8
-    ensures { (result ≡ decode_refusal s received.now marks.now map.now) × (result ≤ 3) }
+// Checks a received word, its marks, and the room for its map.
+pub fn check_received(
+    s: Setting,
+    received: &[u8],
+    marks: &[u8],
+    map: &[u8],
+) -> Result<(), InputError>
+    ensures { encoded_number result ≡ decode_refusal s received.now marks.now map.now }
 {
     if !is_allowed(s) {
-        return 1;
+        return Err(InputError::BadSetting);
     }
-    if received.len() != s.n {
-        return 2;
+    if received.len() != s.n || marks.len() != s.n || map.len() != s.n {
+        return Err(InputError::BadLength);
     }
-    if marks.len() != s.n {
-        return 2;
+    if !all_below(received, symbols_of(s.m)) || !all_below(marks, 2) {
+        return Err(InputError::BadSymbol);
     }
-    if map.len() != s.n {
-        return 2;
-    }
-    if !all_below(received, symbols_of(s.m)) {
-        return 3;
-    }
-    if !all_below(marks, 2) {
-        return 3;
-    }
-    0
+    Ok(())
 }
 
 // The same where the message goes to a part: its length stands before the symbols.
-pub fn part_refusal(s: Setting, received: &[u8], marks: &[u8], part: &[u8], map: &[u8]) -> u8
-    ensures { (result ≡ part_refusal s received.now marks.now part.now map.now) × (result ≤ 3) }
+pub fn check_part(
+    s: Setting,
+    received: &[u8],
+    marks: &[u8],
+    part: &[u8],
+    map: &[u8],
+) -> Result<(), InputError>
+    ensures { encoded_number result ≡ part_refusal s received.now marks.now part.now map.now }
 {
     if !is_allowed(s) {
-        return 1;
+        return Err(InputError::BadSetting);
     }
     if part.len() != s.n - s.r {
-        return 2;
+        return Err(InputError::BadLength);
     }
-    decode_refusal(s, received, marks, map)
+    check_received(s, received, marks, map)
 }
 
-// The number by which a word that is only asked about is refused, or 0.
-pub fn clean_refusal(s: Setting, word: &[u8]) -> u8
-    ensures { (result ≡ clean_refusal s word.now) × (result ≤ 3) }
+// Checks a word that is only asked about.
+pub fn check_word(s: Setting, word: &[u8]) -> Result<(), InputError>
+    ensures { encoded_number result ≡ clean_refusal s word.now }
 {
     if !is_allowed(s) {
-        return 1;
+        return Err(InputError::BadSetting);
     }
     if word.len() != s.n {
-        return 2;
+        return Err(InputError::BadLength);
     }
     if !all_below(word, symbols_of(s.m)) {
-        return 3;
+        return Err(InputError::BadSymbol);
     }
-    0
+    Ok(())
 }

@@ -1,31 +1,53 @@
 // Document 01, section Numbers a call can answer: the paper's number of a word's answer, and its figures.
 ghost use Rattle.std.specs.Prelude.{◌≡◌};
-ghost use Rattle.word.specs.Answers.{encoded_number, number_of, figures_of, no_figures};
+ghost use Rattle.word.specs.Answers.{input_number, decode_number, encoded_number, number_of, figures_of, no_figures};
 
-use crate::{Decoded, Encoded, Figures};
+use crate::{DecodeError, Figures, InputError};
+
+impl InputError {
+    // The number of a refused input.
+    pub fn number(self) -> u8
+        ensures { result ≡ input_number self }
+    {
+        match self {
+            InputError::BadSetting => 1,
+            InputError::BadLength => 2,
+            InputError::BadSymbol => 3,
+        }
+    }
+}
+
+impl DecodeError {
+    // The number of a refused word.
+    pub fn number(self) -> u8
+        ensures { result ≡ decode_number self }
+    {
+        match self {
+            DecodeError::BadSetting => 1,
+            DecodeError::BadLength => 2,
+            DecodeError::BadSymbol => 3,
+            DecodeError::BeyondReach => 4,
+        }
+    }
+}
 
 // The number of an encoder's answer.
-pub fn encoded_number(d: Encoded) -> u8
-    ensures { result ≡ encoded_number d }
+pub fn encoded_number(answer: Result<(), InputError>) -> u8
+    ensures { result ≡ encoded_number answer }
 {
-    match d {
-        Encoded::Done => 0,
-        Encoded::BadSetting => 1,
-        Encoded::BadLength => 2,
-        Encoded::BadSymbol => 3,
+    match answer {
+        Ok(()) => 0,
+        Err(e) => e.number(),
     }
 }
 
 // The number of a decoder's answer.
-pub fn number_of(d: Decoded) -> u8
-    ensures { result ≡ number_of d }
+pub fn number_of(answer: Result<Figures, DecodeError>) -> u8
+    ensures { result ≡ number_of answer }
 {
-    match d {
-        Decoded::Done(_) => 0,
-        Decoded::BadSetting => 1,
-        Decoded::BadLength => 2,
-        Decoded::BadSymbol => 3,
-        Decoded::BeyondReach => 4,
+    match answer {
+        Ok(_) => 0,
+        Err(e) => e.number(),
     }
 }
 
@@ -33,22 +55,12 @@ pub fn number_of(d: Decoded) -> u8
 pub fn no_figures() -> Figures
     ensures { result ≡ no_figures }
 {
-    Figures {
-        errors: 0,
-        marked: 0,
-        bits: 0,
-    }
+    Figures::default()
 }
 
 // The figures of a decoder's answer; a refused word has none.
-pub fn figures_of(d: Decoded) -> Figures
-    ensures { result ≡ figures_of d }
+pub fn figures_of(answer: Result<Figures, DecodeError>) -> Figures
+    ensures { result ≡ figures_of answer }
 {
-    match d {
-        Decoded::Done(figures) => figures,
-        Decoded::BadSetting => no_figures(),
-        Decoded::BadLength => no_figures(),
-        Decoded::BadSymbol => no_figures(),
-        Decoded::BeyondReach => no_figures(),
-    }
+    answer.unwrap_or(no_figures())
 }

@@ -1,5 +1,5 @@
--- `tables::decode_part_by` meets its contract: the look by tables tells what `look_at` does, and `to_part` promises the rest.
+-- `tables::decode_part_by` meets its contract: the tables of a setting make the check symbols of its code, so the look tells what `to_part` asks.
 use Rattle.word.proofs.tables.decode_part_by.Goals as goal
 
-pub to_part-requires : goal.to_part-requires
-to_part-requires c = let pre = c.requires in (c.look_by-seen.ensures, pre.2, pre.3)
+pub look_at-seen-requires-clause-given : goal.look_at-seen-requires-clause-given
+look_at-seen-requires-clause-given c = λ checks (message, by, same). rw same at (by.each _ _ c.requires.1)
