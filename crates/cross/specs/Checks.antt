@@ -7,7 +7,7 @@ use Rattle.std.proofs.Math.Decide.{ℕ_discrete, dec_lt}
 use Rattle.algebra.specs.Sets.{put_elim}
 use Rattle.algebra.specs.Tests.{below}
 use Rattle.algebra.specs.Refusal.{need, if_zero, need_yes, need_zero, first_none, first_zero, passes}
-use Rattle.interleave.specs.Numbers.{answered, number_of, through, first_most}
+use Rattle.interleave.specs.Numbers.{answered, number_of, passed, through, first_most}
 use Rattle.word.specs.Answers.{no_figures, decoding_part}
 use Rattle.word.specs.declared.Figures.{Figures}
 use Rattle.cross.specs.Numbers.{cross_number, cross_error, cross_error_back, taken_number, taken_figures}
@@ -70,6 +70,13 @@ receive_fine p memory held word message map k e z =
     let (f, _) = need_zero (passes (below 2 held)) 3 _ (omega arith) e₅ in
     let (s, t) = fresh_fine memory (length held) b in
     record { position = a; memory_size = s; held_size = t; word_size = c; message_size_lem = d; map_size = l; fit = f }
+
+-- a check that passes
+pub receive_allowed : (p memory : ℕ) (held : List ℕ) (word message map : ℕ) (u : Unit {0}) → Ok u ≡ answered cross_error (receive_refusal p memory held word message map) tt → ReceiveFine p memory held word message map
+receive_allowed p memory held word message map u e = receive_fine p memory held word message map 0 (sym (passed cross_error _ _ _ e)) refl
+
+pub send_allowed : (p memory message word : ℕ) (u : Unit {0}) → Ok u ≡ answered cross_error (send_refusal p memory message word) tt → SendFine p memory message word
+send_allowed p memory message word u e = send_fine p memory message word 0 (sym (passed cross_error _ _ _ e)) refl
 
 pub receive_done : (p memory : ℕ) (held : List ℕ) (word message map : ℕ) → ReceiveFine p memory held word message map → receive_refusal p memory held word message map ≡ 0
 unfolding receive_refusal

@@ -1,11 +1,11 @@
 // The two codes of a cross line: their settings, and what its receiver makes of an inner and of an outer word.
-ghost use Rattle.std.specs.Prelude.{◌≡◌, length, replicate};
+ghost use Rattle.std.specs.Prelude.{◌≡◌, length};
 ghost use Rattle.algebra.specs.Refusal.{if_zero};
 ghost use Rattle.word.specs.Answers.{number_of};
 ghost use Rattle.cross.specs.Cross.{outer_code, inner_code, passed_on, mark_of, map_of, frame_outcome, settled};
 
 use crate::position::NoMessage;
-use buffers::copy;
+use buffers::{copy, filled};
 use word::{DecodeError, Figures, Setting, decode_part};
 
 // 24 bytes and 4 check bytes.
@@ -32,20 +32,6 @@ pub fn inner_code() -> Setting
     }
 }
 
-// The 28 bytes of an outer word, all of one value. A call of its own keeps the array out of its callers' proofs.
-pub fn frame_of(value: u8) -> [u8; 28]
-    ensures { result ≡ replicate 28 value }
-{
-    [value; 28]
-}
-
-// Marks for an inner word: none of its bytes is known to be wrong.
-fn no_marks() -> [u8; 32]
-    ensures { result ≡ replicate 32 0 }
-{
-    [0; 32]
-}
-
 // The mark of the bytes that a word passes on: 1 where it is refused.
 fn mark_of(answer: Result<Figures, DecodeError>) -> u8
     ensures { result ≡ if_zero (number_of answer) 0 1 }
@@ -64,7 +50,7 @@ pub fn open_inner(word: &[u8], bytes: &mut [u8], map: &mut [u8]) -> u8
     ensures { (result ≡ mark_of word.now) × (bytes.new ≡ passed_on word.now) × (map.new ≡ map_of word.now) }
 {
     copy(&word[0..28], bytes);
-    let marks = no_marks();
+    let marks: [u8; 32] = filled(0);
     mark_of(decode_part(inner_code(), word, &marks, bytes, map))
 }
 
@@ -83,7 +69,7 @@ pub fn settle(
     if position < 108 {
         return Err(NoMessage::NotYet);
     }
-    let mut places = frame_of(0);
+    let mut places: [u8; 28] = filled(0);
     match decode_part(outer_code(), bytes, marks, message, &mut places) {
         Ok(figures) => Ok(figures),
         Err(_) => {

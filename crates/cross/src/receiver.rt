@@ -6,10 +6,10 @@ ghost use Rattle.cross.specs.Numbers.{cross_error};
 ghost use Rattle.cross.specs.Cross.{fresh_refusal, receive_refusal};
 ghost use Rattle.cross.specs.Promises.{FreshReceiver, Receive};
 
-use crate::codes::{frame_of, open_inner, settle};
+use crate::codes::{open_inner, settle};
 use crate::delays::hold_back;
 use crate::position::{CrossError, Received, frames_of_a_cycle, next};
-use buffers::all_below;
+use buffers::{all_below, filled};
 
 // Whether a receiver's memories are refused.
 fn check_memories(memory: usize, held: usize) -> Result<(), CrossError>
@@ -63,6 +63,7 @@ fn check_receive(
 // map too.
 // The map is that of the inner word of this frame, whatever becomes of the outer word: of a frame that is taken it gets 1 at each of the 32
 // places where the inner word was changed and 0 elsewhere, and it is all 0 where the inner word was refused.
+#[tactic(auto, using(crate::specs::Checks::receive_allowed))]
 pub fn receive(
     position: usize,
     memory: &mut [u8],
@@ -81,9 +82,9 @@ pub fn receive(
         message.len(),
         map.len(),
     )?;
-    let mut bytes = frame_of(0);
+    let mut bytes: [u8; 28] = filled(0);
     let mark = open_inner(word, &mut bytes, map);
-    let mut marks = frame_of(mark);
+    let mut marks: [u8; 28] = filled(mark);
     hold_back(memory, true, position, &mut bytes);
     hold_back(held, true, position, &mut marks);
     Ok(Received {

@@ -5,9 +5,10 @@ ghost use Rattle.cross.specs.Numbers.{cross_error};
 ghost use Rattle.cross.specs.Cross.{send_refusal};
 ghost use Rattle.cross.specs.Promises.{FreshSender, Send};
 
-use crate::codes::{frame_of, inner_code, outer_code};
+use crate::codes::{inner_code, outer_code};
 use crate::delays::hold_back;
 use crate::position::{CrossError, frames_of_a_cycle, next};
+use buffers::filled;
 use word::encode;
 
 // A sender that has sent nothing: position 0, and a memory of 1512 zeros. Gives the position.
@@ -47,7 +48,7 @@ pub fn send(
 {
     check_send(position, memory.len(), message.len(), word.len())?;
     // Neither code refuses bytes of the right number.
-    let mut bytes = frame_of(0);
+    let mut bytes: [u8; 28] = filled(0);
     let _ = encode(outer_code(), message, &mut bytes);
     hold_back(memory, false, position, &mut bytes);
     let _ = encode(inner_code(), &bytes, word);

@@ -1,18 +1,20 @@
 -- The checks that stand before a frame is sent, received or asked about (document 01, Numbers a call can answer): what is known once none has failed, and
 -- which calls none fails.
 -- Assumes nothing.
-use Rattle.std.specs.Prelude.{◌≡◌, true, false, List, length, T}
+use Rattle.std.specs.Prelude.{◌≡◌, true, false, Result, Ok, Err, List, length, T}
 use Rattle.std.proofs.Math.Path.{refl}
 use Prim.Native.Nat.{ℕ, ◌+◌, ◌-◌, ◌≤◌}
 use Rattle.std.proofs.Math.Decide.{ℕ_discrete, dec_le}
 use Rattle.std.proofs.Common.{arith}
 use Rattle.algebra.specs.Tests.{below, passed}
 use Rattle.algebra.specs.Refusal.{passes, need_yes, need_no, need_zero, need_either}
-use Rattle.frame.specs.Frame.{area_size, slot_count, allowed_frame, send_refusal, receive_refusal, error_number, error_word}
-use Rattle.frame.specs.Frame.Limits.{FrameAllowed, frame_kept, frame_yes}
-use Rattle.frame.specs.Clean.{clean_refusal}
+use Rattle.frame.specs.Frame.{area_size, slot_count, allowed_frame, sent_number, send_refusal, receive_refusal, error_number, error_word}
+use Rattle.frame.specs.Frame.Limits.{FrameAllowed, frame_kept, frame_yes, small_kept}
+use Rattle.frame.specs.Clean.{clean_number, clean_refusal}
 use Rattle.frame.specs.declared.setting.Framing.{Framing}
+use Rattle.frame.specs.declared.setting.SendError.{SendError}
 use Rattle.frame.specs.declared.setting.ReceiveError.{ReceiveError}
+use Rattle.frame.specs.declared.clean.CleanError.{CleanError}
 use Rattle.frame.specs.declared.setting.ReceiveError.TheVariants.{BadSetting, BadLength, BadMark, BeyondReach, BadTrailer}
 
 is_allowed : (f : Framing) → FrameAllowed f → T (allowed_frame f)
@@ -50,6 +52,11 @@ module _ (f : Framing) (payload slots : List ℕ) where
   pub send_passes : SendChecked f payload slots → 0 ≡ send_refusal f payload slots
   unfolding send_refusal
   send_passes c = need_yes _ _ _ _ (is_allowed f c.limits) (need_yes _ _ _ _ c.slots_size (need_yes _ _ _ _ (omega (arith, c.fits)) refl))
+
+-- what the check tells: what is known once it has passed, or the refusal
+abbrev pub SendTold : Framing → (payload slots : List ℕ) → Result (Unit {0}) SendError → Type 0
+SendTold f payload slots (Ok u) = SendChecked f payload slots
+SendTold f payload slots (Err e) = sent_number (Err e) ≡ send_refusal f payload slots
 
 -- ---- before a frame is received
 
@@ -125,6 +132,11 @@ module _ (f : Framing) (slots marks area map : List ℕ) where
   refused_no_word (BeyondReach w) h = absurd (omega (arith, receive_most))
   refused_no_word BadTrailer h = refl
 
+-- what the check tells
+abbrev pub ReceiveTold : Framing → (slots marks area map : List ℕ) → Result (Unit {0}) ReceiveError → Type 0
+ReceiveTold f slots marks area map (Ok u) = ReceiveChecked f slots marks area map
+ReceiveTold f slots marks area map (Err e) = error_number e ≡ receive_refusal f slots marks area map
+
 -- ---- before a frame is asked about
 
 pub record CleanChecked (f : Framing) (slots : List ℕ) : Type 0 where
@@ -140,6 +152,9 @@ module _ (f : Framing) (slots : List ℕ) where
   unfolding clean_refusal
   clean_length a n = need_yes _ _ _ _ (is_allowed f a) (need_no _ _ _ n)
 
+  pub clean_met : FrameAllowed f → length slots ≡ slot_count f → CleanChecked f slots
+  clean_met a n = record { limits = a; slots_size = n }
+
   pub clean_checked : clean_refusal f slots ≡ 0 → CleanChecked f slots
   unfolding clean_refusal
   clean_checked e =
@@ -150,3 +165,11 @@ module _ (f : Framing) (slots : List ℕ) where
   pub clean_passes : CleanChecked f slots → 0 ≡ clean_refusal f slots
   unfolding clean_refusal
   clean_passes c = need_yes _ _ _ _ (is_allowed f c.limits) (need_yes _ _ _ _ c.slots_size refl)
+
+-- what the check tells
+abbrev pub CleanTold : Framing → (slots : List ℕ) → Result (Unit {0}) CleanError → Type 0
+CleanTold f slots (Ok u) = CleanChecked f slots
+CleanTold f slots (Err e) = clean_number {A = Unit {0}} (Err e) ≡ clean_refusal f slots
+
+-- for the checks' own proofs
+pub ruleset told = (small_kept, frame_kept, send_setting, send_length, send_long, receive_setting, receive_length, receive_mark, clean_setting, clean_length, clean_met)

@@ -3,9 +3,8 @@
 ghost use Rattle.std.specs.Prelude.{◌≡◌};
 ghost use Rattle.word.specs.Looking.{Tabled};
 ghost use Rattle.frame.specs.Frame.{word_setting};
-ghost use Rattle.frame.specs.Clean.{clean_number, clean_refusal};
 ghost use Rattle.frame.specs.Promises.{IsClean};
-ghost use Rattle.frame.specs.Checks.{CleanChecked};
+ghost use Rattle.frame.specs.Checks.{CleanChecked, CleanTold};
 ghost use Rattle.frame.specs.Asking.{FirstUnclean};
 
 use crate::setting::{Framing, is_allowed};
@@ -19,8 +18,9 @@ pub enum CleanError {
 }
 
 // Whether a frame can be asked about. The setting comes first: within its limits the number of slots fits.
+#[tactic(auto, using(crate::specs::Checks::told))]
 fn check_clean(f: Framing, slots: &[u8]) -> Result<(), CleanError>
-    ensures { clean_number result ≡ clean_refusal f slots.now }
+    ensures { CleanTold f slots.now result }
 {
     if !is_allowed(f) {
         return Err(CleanError::BadSetting);
@@ -46,6 +46,7 @@ fn first_unclean(f: Framing, tables: &Tables, slots: &[u8]) -> Option<u8>
 
 // The first word of a received frame that is no codeword, or none where every word is one. Refused 1 for the setting, also where the area has no
 // room for a trailer, and 2 for the number of slots.
+#[tactic(auto, using(crate::specs::Asking::clean_refused, crate::specs::Asking::clean_told, std::proofs::lemmas::Result::err_from_is_err_and))]
 pub fn is_clean(f: Framing, slots: &[u8]) -> Result<Option<u8>, CleanError>
     ensures { IsClean f slots.now result }
 {

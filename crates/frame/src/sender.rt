@@ -2,19 +2,21 @@
 // words.
 ghost use Rattle.std.specs.Prelude.{◌≡◌};
 ghost use Rattle.word.specs.Looking.{Tabled};
-ghost use Rattle.frame.specs.Frame.{word_setting, sent_number, send_refusal, slots_sent};
+ghost use Rattle.frame.specs.Frame.{word_setting, slots_sent};
 ghost use Rattle.frame.specs.Promises.{Sends};
+ghost use Rattle.frame.specs.Checks.{SendTold};
 ghost use Rattle.frame.specs.Sending.{SendGiven};
 
 use crate::setting::{Framing, SendError, is_allowed};
 use crate::trailer::fill_message;
-use buffers::work_space;
+use buffers::filled;
 use interleave::slots::put_word;
 use word::tables::{Tables, encode_by, prepare};
 
 // Whether a payload can be sent into these slots. The setting comes first: within its limits the area's size fits.
+#[tactic(auto, using(crate::specs::Checks::told))]
 fn check_send(f: Framing, payload: &[u8], slots: &[u8]) -> Result<(), SendError>
-    ensures { sent_number result ≡ send_refusal f payload.now slots.now }
+    ensures { SendTold f payload.now slots.now result }
 {
     if !is_allowed(f) {
         return Err(SendError::BadSetting);
@@ -53,14 +55,15 @@ fn send_words(
 
 // Sends a payload of at most A - 4 bytes with its sequence number: fills the slots, of which there are n * depth.
 // Any refusal leaves the slots as they were.
+#[tactic(auto, using(crate::specs::Sending::send_refused, crate::specs::Sending::send_done, std::proofs::lemmas::Result::err_from_is_err_and))]
 pub fn send(f: Framing, payload: &[u8], sequence: u16, slots: &mut [u8]) -> Result<(), SendError>
     ensures { Sends f payload.now sequence slots.old result slots.new }
 {
     check_send(f, payload, slots)?;
     let mut tables = Tables::none();
     prepare(f.words(), &mut tables);
-    let mut message = work_space();
-    let mut word = work_space();
+    let mut message: [u8; 255] = filled(0);
+    let mut word: [u8; 255] = filled(0);
     send_words(
         f,
         &tables,

@@ -80,6 +80,7 @@ impl Framing {
 }
 
 // Whether a frame's setting keeps the limits. The words' come first, so that the area's size is small.
+#[tactic(auto, using(crate::specs::Frame::Limits::small_yes), unfolding(crate::specs::Frame::allowed_frame))]
 pub fn is_allowed(f: Framing) -> bool
     ensures { result ≡ allowed_frame f }
 {

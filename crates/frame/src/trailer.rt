@@ -19,6 +19,7 @@ fn trailer_of(back: u16, sequence: u16) -> [u8; 4]
 }
 
 // Byte i of the area to be sent.
+#[tactic(auto, using(crate::specs::Frame::Trailer::sent_zero, crate::specs::Frame::Trailer::sent_payload, crate::specs::Frame::Trailer::sent_trailer))]
 fn area_at(payload: &[u8], sequence: u16, size: usize, i: usize) -> u8
     requires { (length payload.now + 4 ≤ size) × (size ≤ 65535) × (i < size) }
     ensures { result ≡ at (area_sent size payload.now sequence) i }
@@ -53,6 +54,7 @@ pub fn two_at(area: &[u8], i: usize) -> u16
 }
 
 // Whether the payload that the trailer tells of lies within the area, with nothing but zeros before it.
+#[tactic(auto, using(crate::specs::Frame::Trailer::good_long, crate::specs::Frame::Trailer::good_within, crate::specs::Frame::Trailer::zeros_below))]
 pub fn is_good(area: &[u8]) -> bool
     requires { 4 ≤ length area.now }
     ensures { result ≡ trailer_good (length area.now) area.now }
@@ -64,6 +66,7 @@ pub fn is_good(area: &[u8]) -> bool
 
 // The payload of an accepted frame, as that part of the area itself: the `back` bytes that end four before its end. The part is empty
 // where the frame was refused, and where an area has not so many bytes.
+#[tactic(auto, using(crate::specs::Frame::Trailer::payload_short, crate::specs::Frame::Trailer::payload_there), unfolding(crate::specs::Frame::payload_of))]
 pub fn payload<'a>(area: &'a [u8], answer: Result<Received, ReceiveError>) -> &'a [u8]
     ensures { HandsBack area.now answer result.now }
 {

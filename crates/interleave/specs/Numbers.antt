@@ -1,7 +1,7 @@
 -- Why a call on an interleaver is refused, and the paper's number for it (document 01, Numbers a call can answer). The refusals of specs/ are
 -- those numbers, and an answer of the code gives, or refuses with the error that its number stands for.
 -- Assumes nothing.
-use Rattle.std.specs.Prelude.{◌≡◌, refl, ◌≢◌, Result, Ok, Err, ℕ, zero, suc, ◌≤◌, ◌<◌}
+use Rattle.std.specs.Prelude.{◌≡◌, refl, ◌≢◌, Bool, false, T, Result, Ok, Err, ℕ, zero, suc, ◌≤◌, ◌<◌}
 use Rattle.std.specs.Result.{IsErrAnd}
 use Rattle.std.proofs.Common.{ap, ◌∙◌, arith}
 use Rattle.std.proofs.lemmas.Result.{err_from_is_err_and}
@@ -62,6 +62,10 @@ module _ {A E : Type 0} (error : ℕ → E) (a : A) where
       let z : ◌≡◌ {A = Result A E} (Err x) (Err (error (suc k))) = e in
       let same : x ≡ error (suc k) = cc in
       (λ n. omega arith, rw (p.1, p.2, same) refl)
+
+-- what fails the test of the code fails that of the definition
+pub fails : (r b : Bool) → r ≡ b → r ≡ false → ¬ T b
+fails r b e h t = let g = rw (← e, h) at t in g
 
 -- neither of two refusals is numbered above k
 pub first_most : (a b k : ℕ) → a ≤ k → b ≤ k → first a b ≤ k

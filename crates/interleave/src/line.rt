@@ -78,6 +78,7 @@ fn common(branches: usize) -> usize
 }
 
 // The number of positions of a line: after so many steps every ring is where it was.
+#[tactic(auto, using(crate::proofs::Bounds::period_bound), unfolding(crate::specs::Line::period))]
 pub fn period(branches: usize, unit: usize) -> usize
     requires { (branches ≤ 16) × (unit ≤ 128) }
     ensures { result ≡ period branches unit }

@@ -1,7 +1,7 @@
 -- The first look at a received word: its marks counted, and what it leaves of its message's check symbols. And the tables by which many words
 -- are looked at.
 -- Assumes nothing.
-use Rattle.std.specs.Prelude.{◌≡◌, refl, Bool, true, false, List, ℕ, ◌+◌, ◌-◌, ◌*◌, ◌^◌, ◌≤◌, ◌<◌, T, length, take, drop}
+use Rattle.std.specs.Prelude.{◌≡◌, refl, Bool, true, false, List, ℕ, ◌+◌, ◌*◌, ◌^◌, ◌≤◌, ◌<◌, T, length, take, drop}
 use Rattle.std.proofs.Math.Path.{sym, ap}
 use Rattle.std.proofs.Common.{◌∙◌, subst, arith, length-drop, take-append-drop, ext_get_or, length-take-le, get_or-take}
 use Rattle.std.proofs.Math.Option.{some, none}
@@ -103,10 +103,6 @@ Told s marks received (Damaged f rest) = Measured s marks received f rest
 pub record Looked (s : Setting) (marks received : List ℕ) (r : Look) : Type 0 where
   pub fine : Checked s marks received
   pub told : Told s marks received r
-
--- a front of r entries, as the code takes it
-pub front_of : (r : ℕ) (w : List ℕ) → take (r - 0) w ≡ take r w
-front_of r w = let e : r - 0 ≡ r = omega arith in ap (λ (k : ℕ). take k w) e
 
 -- the test of what is left over, and of all that stands behind it
 nothing_left : (r : ℕ) (rest : List ℕ) → true ≡ below 1 rest → T (below 1 (take r rest))

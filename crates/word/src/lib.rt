@@ -19,7 +19,7 @@ ghost use Rattle.word.specs.Setting.{message_size};
 ghost use Rattle.word.specs.Looking.{Measured, Looked};
 ghost use Rattle.word.specs.Correcting.{Answered};
 
-use buffers::{copy, fill, join, work_space};
+use buffers::{copy, fill, filled, join};
 use checks::register::check_symbols;
 pub use clean::is_clean;
 use correct::correct_word;
@@ -88,6 +88,7 @@ pub fn encode(s: Setting, message: &[u8], word: &mut [u8]) -> Result<(), InputEr
 }
 
 // What a damaged word is answered: its correction is put at the front of the work space and its map is written, where there is one.
+#[tactic(auto, using(crate::specs::Setting::in_limits))]
 fn answer(
     s: Setting,
     f: usize,
@@ -101,7 +102,7 @@ fn answer(
     ensures { Answered s received.now marks.now map.old work.new result map.new }
 {
     let n = s.n;
-    let figures = correct_word(s, f, rest, received, marks, &mut work[0..n]).ok_or(
+    let figures = correct_word(s, f, rest, received, marks, &mut work[..n]).ok_or(
         DecodeError::BeyondReach,
     )?;
     note_changes(received, work, map);
@@ -109,6 +110,7 @@ fn answer(
 }
 
 // Corrects a word that has been looked at where it stands. Nothing but the map is written unless it is damaged.
+#[tactic(auto, using(crate::specs::Setting::in_limits))]
 fn in_place(
     s: Setting,
     seen: Look,
@@ -124,7 +126,7 @@ fn in_place(
         Look::Lost => Err(DecodeError::BeyondReach),
         Look::Clean(figures) => Ok(figures),
         Look::Damaged { marked, rest } => {
-            let mut work = work_space();
+            let mut work: [u8; 255] = filled(0);
             let figures = answer(s, marked, rest, word, marks, &mut work, map)?;
             copy(&work, word);
             Ok(figures)
@@ -134,6 +136,7 @@ fn in_place(
 
 // The same with the message put into a part of its own, and the received word only read. A function of its own, since `in_place` reads what it
 // writes, and leaves a clean word uncopied.
+#[tactic(auto, using(crate::specs::Setting::in_limits))]
 fn to_part(
     s: Setting,
     seen: Look,
@@ -153,7 +156,7 @@ fn to_part(
             Ok(figures)
         }
         Look::Damaged { marked, rest } => {
-            let mut work = work_space();
+            let mut work: [u8; 255] = filled(0);
             let figures = answer(s, marked, rest, received, marks, &mut work, map)?;
             copy(&work, part);
             Ok(figures)

@@ -1,10 +1,9 @@
 // The first look at a received word, before anything is copied or written: how many places are marked, and what the word leaves of its
 // message's check symbols. Most words leave nothing, and are answered after it.
-ghost use Rattle.std.specs.Prelude.{◌≡◌, ◌≤◌};
 ghost use Rattle.word.specs.Refusals.{Checked};
 ghost use Rattle.word.specs.Looking.{Looked, Tabled};
 
-use crate::count::count_marks;
+use crate::count::{count_marks, figures};
 use crate::{Figures, Setting};
 use buffers::all_below;
 use checks::left::{left_over, padded};
@@ -18,19 +17,8 @@ pub enum Look {
     Damaged { marked: usize, rest: [u8; 16] },
 }
 
-// The figures of a received codeword with f marks: nothing has to be counted.
-fn clean_figures(f: usize) -> Figures
-    requires { f ≤ 255 }
-    ensures { result ≡ record { errors = 0; marked = f; bits = 0 } }
-{
-    Figures {
-        errors: 0,
-        marked: f as u16,
-        bits: 0,
-    }
-}
-
 // A look at a word that has passed the checks, by the tables of its setting.
+#[tactic(auto, using(crate::specs::Setting::in_limits))]
 pub fn look_at(s: Setting, tables: &Tables, received: &[u8], marks: &[u8]) -> Look
     requires { Checked s marks.now received.now × Tabled s tables.now }
     ensures { Looked s marks.now received.now result }
@@ -43,7 +31,7 @@ pub fn look_at(s: Setting, tables: &Tables, received: &[u8], marks: &[u8]) -> Lo
     let checks = check_symbols_by(s.r, tables, &received[..k]);
     let rest = left_over(checks, padded(&received[k..]));
     if all_below(&rest, 1) {
-        return Look::Clean(clean_figures(f));
+        return Look::Clean(figures(0, f, 0));
     }
     Look::Damaged { marked: f, rest }
 }

@@ -15,7 +15,8 @@ use checks::left::agree;
 use checks::register;
 pub use checks::register::Tables;
 
-// Makes the tables of a setting.
+// Makes the tables of a setting. Setting and tables stay two: a struct of both would have each call ask that the struct be of its own setting,
+// where it asks `Tabled` now.
 pub fn prepare(s: Setting, tables: &mut Tables)
     requires { (s.b ≤ 1) × (s.r ≤ 16) }
     ensures { Tabled s tables.new }
@@ -24,6 +25,7 @@ pub fn prepare(s: Setting, tables: &mut Tables)
 }
 
 // `encode`, by tables.
+#[tactic(auto, using(crate::specs::Setting::in_limits))]
 pub fn encode_by(s: Setting, tables: &Tables, message: &[u8], word: &mut [u8])
     requires { MessageChecked s message.now word.old × Tabled s tables.now }
     ensures { word.new ≡ encoded s message.now }
@@ -49,6 +51,7 @@ pub fn decode_part_by(
 }
 
 // `is_clean`, by tables, of a word whose symbols stand `step` apart in the slots, from the one at `first` on. They are read where they stand.
+#[tactic(auto, using(crate::specs::Setting::in_limits))]
 pub fn is_clean_by(s: Setting, tables: &Tables, slots: &[u8], step: usize, first: usize) -> bool
     requires { Stands s step first slots.now × Tabled s tables.now }
     ensures { result ≡ is_codeword s (standing s step first slots.now) }

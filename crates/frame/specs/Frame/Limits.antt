@@ -81,3 +81,6 @@ module _ (f : Framing) (a : FrameAllowed f) where
 
   pub slots_few : slot_count f ≤ 4080
   slots_few = slots_small f small
+
+pub small_kept : (f : Framing) → allowed_frame f ≡ true → Small f
+small_kept f e = small f (frame_kept f e)

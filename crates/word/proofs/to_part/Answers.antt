@@ -1,22 +1,16 @@
 -- `to_part` meets its contract: the map is cleared first; the message of a clean word is its front, and else `answer` says what the paper says,
 -- and the front of an accepted word is copied to the part.
-use mathlib.Core.Path.{◌≡◌, sym, ◌∙◌}
-use native.Mathlib.Omega.{arith}
+use mathlib.Core.Path.{◌∙◌}
 use Rattle.std.proofs.lemmas.Result.{err_from_is_err_and}
-use Rattle.word.specs.Setting.{limits, at_most}
 use Rattle.word.specs.Map.Laws.{changes_self, cleared}
 use Rattle.word.specs.Met.{part_found, part_lost}
 use Rattle.word.specs.Correcting.{message_front}
-use borrow.Author.Rules.{rules}
 use Rattle.word.proofs.to_part.Goals as goal
 
 pub returns-in-Lost : goal.returns-in-Lost
 returns-in-Lost c =
     let pre = c.requires in
     part_lost _ _ _ _ _ pre.1 pre.2 pre.0.fine _ (rw c.in-Lost.is at pre.0.told) (cleared _ c.args.map.now c.args.received.now _ c.fill.ensures pre.2 pre.0.fine.size)
-
-pub copy-requires : goal.copy-requires
-copy-requires c = let pre = c.requires in omega (arith, pre.1, pre.0.fine.size)
 
 pub returns-in-Clean : goal.returns-in-Clean
 returns-in-Clean c =
@@ -25,25 +19,12 @@ returns-in-Clean c =
     rw (c.copy.ensures, pre.1)
     (part_found _ _ _ _ _ pre.1 pre.2 pre.0.fine _ _ _ told.0 told.1 (cleared _ c.args.map.now c.args.received.now _ c.fill.ensures pre.2 pre.0.fine.size ∙ changes_self _))
 
-pub answer-requires : goal.answer-requires
-answer-requires c =
-    let pre = c.requires in
-    (rw c.in-Damaged.is at pre.0.told, c.work_space-work.ensures, search rules)
-
 pub returns-in_err-figures-in-Damaged : goal.returns-in_err-figures-in-Damaged
 returns-in_err-figures-in-Damaged c =
     let pre = c.requires in
     let no = c.answer.ensures.refused _ c.in_err-figures-in-Damaged.was in
     let p = err_from_is_err_and c.from_residual.result c.from_residual.ensures.1 in
     rw (p.1, p.2, no.0) (part_lost _ _ _ _ _ pre.1 pre.2 pre.0.fine _ no.1 (no.2 ∙ cleared _ c.args.map.now c.args.received.now _ c.fill.ensures pre.2 pre.0.fine.size))
-
-pub slice_bounds-copy-end : goal.slice_bounds-copy-end
-slice_bounds-copy-end c = sym c.answer.ensures.size
-
-pub copy-requires-in-Damaged : goal.copy-requires-in-Damaged
-copy-requires-in-Damaged c =
-    let pre = c.requires in
-    omega (arith, pre.1, pre.0.fine.size, at_most _ (limits _ pre.0.fine.setting), c.answer.ensures.size)
 
 pub returns-in_ok-figures-in-Damaged : goal.returns-in_ok-figures-in-Damaged
 returns-in_ok-figures-in-Damaged c =

@@ -1,15 +1,11 @@
 -- `check_receive` meets its contract: the position goes first, then all lengths, then the marks of the memory.
-use Rattle.std.proofs.Common.{◌≡◌, ◌∙◌, Bool, false, T, ◌<◌, ◌+◌, ℕ, ap, refl, arith}
+use Rattle.std.proofs.Common.{◌∙◌, ◌<◌, ◌+◌, ℕ, ap, refl, arith}
 use Rattle.algebra.specs.Refusal.{need_yes, need_no, first_none}
-use Rattle.interleave.specs.Numbers.{answered, passed, first_refused}
+use Rattle.interleave.specs.Numbers.{answered, passed, first_refused, fails}
 use Rattle.cross.specs.Numbers.{cross_error}
 use Rattle.cross.specs.Cross.{cycle, receive_refusal}
 use Rattle.cross.proofs.receiver.check_receive.Goals as goal
 use Rattle.cross.proofs.receiver.check_receive.Goals.{then-word-ne32-via-then-word-ne32, then-word-ne32-via-else-word-ne32+then-message-ne24, then-word-ne32-via-else-word-ne32+else-message-ne24+then-map-ne32}
-
--- marks that fail the test of the code fail that of the definition
-fails : (r b : Bool) → r ≡ b → r ≡ false → ¬ T b
-fails r b e h t = let g = rw (← e, h) at t in g
 
 pub returns-then-frames_of_a_cycle-position : goal.returns-then-frames_of_a_cycle-position
 unfolding receive_refusal

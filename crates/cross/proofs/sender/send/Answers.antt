@@ -10,7 +10,7 @@ use Rattle.cross.proofs.sender.send.Goals as goal
 
 pub hold_back-requires : goal.hold_back-requires
 hold_back-requires c =
-    let framed = c.frame_of-bytes in
+    let framed = c.filled-bytes in
     let f = send_fine _ _ _ _ _ (sym (passed cross_error _ _ _ c.in_ok-check_send.ensures)) refl in
     let size : length c.encode.new.word ≡ length framed.result = search rules in
     (f.memory_size, size ∙ ap (λ (l : List ℕ). length l) framed.ensures ∙ length-replicate {A = ℕ} 28 0)
@@ -22,7 +22,7 @@ pub returns : goal.returns
 unfolding outer_word inner_word
 returns c =
     let z = passed cross_error _ _ _ c.in_ok-check_send.ensures in
-    let outer = ap (λ (o : EncodeOutcome). o.word) (rw (c.outer_code.ensures, c.frame_of-bytes.ensures) at c.encode.ensures.outcome) in
+    let outer = ap (λ (o : EncodeOutcome). o.word) (rw (c.outer_code.ensures, c.filled-bytes.ensures) at c.encode.ensures.outcome) in
     let (memory, bytes) = rw outer at c.hold_back.ensures in
     let inner = ap (λ (o : EncodeOutcome). o.word) (rw (c.inner_code.ensures, bytes) at c.encode-2.ensures.outcome) in
     record { outcome = rw (z, c.next.ensures, memory, inner) refl }

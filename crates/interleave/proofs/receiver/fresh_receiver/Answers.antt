@@ -18,4 +18,4 @@ unfolding fresh_receiver
 returns c =
     let e = passed line_error _ _ _ (rw c.fresh-line.ensures at c.in_ok-check_receiver.ensures) in
     let (f, same) = receiver_fine _ _ _ e in
-    record { outcome = rw (c.fresh-line.ensures, e, c.fill.ensures, c.fill-2.ensures, same, f.exact) refl }
+    record { outcome = rw (c.fresh-line.ensures, e, c.fill.ensures.after (λ y h. h), c.fill-2.ensures.after (λ y h. h), same, f.exact) refl }

@@ -17,4 +17,4 @@ pub returns : goal.returns
 unfolding fresh_sender
 returns c =
     let e = passed line_error _ _ _ (rw c.fresh-line.ensures at c.in_ok-check.ensures) in
-    record { outcome = rw (c.fresh-line.ensures, e, c.fill.ensures, (line_fine _ _ e).exact) refl }
+    record { outcome = rw (c.fresh-line.ensures, e, c.fill.ensures.after (λ y h. h), (line_fine _ _ e).exact) refl }

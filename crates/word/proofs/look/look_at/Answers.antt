@@ -1,5 +1,5 @@
 -- `look_at` meets its contract: more marks than check symbols are one law of `Looked`; message and check symbols are the word, and what it leaves over are the others.
-use mathlib.Core.Path.{◌≡◌, refl, sym, ap, ◌∙◌, subst}
+use mathlib.Core.Path.{◌≡◌, sym, ap, ◌∙◌, subst}
 use mathlib.Core.List.{List, ◌++◌}
 use Prim.Native.Nat.{ℕ, ◌-◌, ◌≤◌}
 use native.Mathlib.Omega.{arith}
@@ -8,7 +8,7 @@ use lib.Seq.{length-take-le, take-length}
 use Rattle.algebra.specs.Lists.{Filled}
 use Rattle.checks.specs.Checks.{Checks}
 use Rattle.checks.specs.Left.{LeftOver, Padded, left_at, left_over}
-use Rattle.word.specs.Setting.{limits, at_most}
+use Rattle.word.specs.Setting.{limits}
 use Rattle.word.specs.Looking.{looked_lost, looked_clean, looked_damaged}
 use borrow.Author.Rules.{rules}
 use Rattle.word.proofs.look.look_at.Goals as goal
@@ -30,16 +30,8 @@ module _ (m b r n : ℕ) (w : List ℕ) (room : r ≤ n) (size : length w ≡ n)
   left_cut checks received rest few sixteen c p h =
       subst (λ (v : List ℕ). LeftOver m b r v (take r rest)) cut (left_over m b r (take k w) (take (length w - k) (drop k w)) checks received rest few tail-size sixteen c (rw tail-size at p) h)
 
-pub count_marks-f-requires : goal.count_marks-f-requires
-count_marks-f-requires c =
-    let k = c.requires.0 in
-    (omega (arith, k.marks_size, at_most _ (limits _ k.setting)), k.marks_small)
-
 pub returns-then-s-f : goal.returns-then-s-f
 returns-then-s-f c = looked_lost _ _ _ c.requires.0 _ c.count_marks-f.ensures.0 c.if-s-f.true
-
-pub overflow_sub-k : goal.overflow_sub-k
-overflow_sub-k c = omega (arith, (limits _ c.requires.0.setting).room)
 
 pub returns-then-all_below : goal.returns-then-all_below
 returns-then-all_below c =
@@ -47,7 +39,7 @@ returns-then-all_below c =
     let limit = limits _ given.setting in
     looked_clean _ _ _ given _ c.count_marks-f.ensures.0 (omega arith) _
     (left_cut _ _ _ _ _ (omega (arith, limit.room)) given.size _ _ _ limit.high (search rules) (c.check_symbols_by-checks.ensures.each _ _ c.requires.1) c.padded.ensures c.left_over-rest.ensures)
-    (sym c.if-all_below.true ∙ c.all_below.ensures) _ c.clean_figures.ensures
+    (sym c.if-all_below.true ∙ c.all_below.ensures) _ c.figures.ensures
 
 pub returns : goal.returns
 returns c =
