@@ -1,7 +1,7 @@
 -- A frame that is damaged within the bound comes back: each word is corrected to the one that was sent, so the area and its trailer are those
 -- that were sent (document 01, Block interleaver and frame).
 -- Assumes nothing.
-use Rattle.std.specs.Prelude.{◌≡◌, true, take, drop, replicate, T, ltb}
+use Rattle.std.specs.Prelude.{◌≡◌, true, Result, Ok, take, drop, replicate, T, ltb}
 use Rattle.std.proofs.Math.Path.{refl, ap, ap₂}
 use Rattle.std.proofs.Common.{sym, ◌∙◌, zero-mul, suc-mul, div-lt_iff_lt-mul, div-add-mod', arith, length-drop, take-add, length-take-le, get_or-take, get_or-drop, lt→ltb}
 use mathlib.Core.List.{List, [], ◌++◌, append_assoc}
@@ -19,7 +19,7 @@ use Rattle.word.specs.Map.Laws.{length_changes, changes_at_lem}
 use Rattle.word.specs.Code.{encoded}
 use Rattle.interleave.specs.Block.{transposed}
 use Rattle.interleave.specs.Slots.{word_in, word_rule, length_word, word_back, spread_rule}
-use Rattle.frame.specs.Frame.{word_setting, area_size, slot_count, allowed_frame, two, two_at, trailer, area_sent, word_sent, slots_sent, trailer_good, corrected_word, is_none, message_of, beyond, changes_at, area_received, figures_received, map_received, payload_of, number_of}
+use Rattle.frame.specs.Frame.{word_setting, area_size, slot_count, allowed_frame, two, two_at, trailer, area_sent, word_sent, slots_sent, trailer_good, corrected_word, is_none, message_of, beyond, changes_at, area_received, figures_received, map_received, payload_of, number_of, received_of}
 use Rattle.frame.specs.Frame.Limits.{FrameAllowed, frame_kept, area_few}
 use Rattle.frame.specs.Frame.Trailer.{length_sent, sent_zero, sent_trailer, zeros_all, good_within, payload_there}
 use Rattle.frame.specs.Promises.{Receives, sends_once, receives_once}
@@ -27,7 +27,7 @@ use Rattle.frame.specs.Sending.{send_done}
 use Rattle.frame.specs.Receiving.{settled_good, decoded_settled, receive_decoded}
 use Rattle.frame.specs.declared.setting.Framing.{Framing}
 use Rattle.frame.specs.declared.setting.Received.{Received}
-use Rattle.frame.specs.declared.setting.Verdict.TheVariants.{Done}
+use Rattle.frame.specs.declared.setting.ReceiveError.{ReceiveError}
 use Rattle.coverage.specs.Channel.{word_of}
 use Rattle.coverage.specs.Frame.{Message, Fits, FrameSent, in_frame, Frame, Arrives, Answer, Answers, ComesBack}
 use Rattle.coverage.specs.Coverage.{FrameComesBack, FrameMapTells}
@@ -146,8 +146,11 @@ module _ (f : Framing) (ok : T (allowed_frame f)) where
 
     module _ (frame : Frame) (a : Arrives f m frame) where
       -- the answer to the frame, whatever area is lent
-      abbrev answer : Received
-      answer = record { verdict = Done; sequence = m.sequence; back = length m.payload; figures = figures_received f frame.slots frame.marks }
+      abbrev numbers : Received
+      numbers = record { sequence = m.sequence; back = length m.payload; figures = figures_received f frame.slots frame.marks }
+
+      abbrev answer : Result Received ReceiveError
+      answer = Ok numbers
 
       word_came : (w : ℕ) → w < f.depth → Came (word_setting f) (word w) (word_of (in_frame f) frame.slots w) (word_of (in_frame f) frame.marks w)
       word_came w l =
@@ -195,7 +198,7 @@ module _ (f : Framing) (ok : T (allowed_frame f)) where
       payload_found =
           let back : ℕ = length m.payload in
           let e : length area - 4 - (length area - 4 - back) ≡ back = omega (arith, area_size_lem, room) in
-          sym (payload_there answer area refl (omega (arith, area_size_lem, room))) ∙ rw (e, area_size_lem) payload_sent
+          sym (payload_there numbers area (omega (arith, area_size_lem, room))) ∙ rw (e, area_size_lem) payload_sent
 
       abbrev map : List ℕ
       map = map_received f frame.slots frame.marks
@@ -204,17 +207,17 @@ module _ (f : Framing) (ok : T (allowed_frame f)) where
       answered_so lent lent_map size map_size =
           receive_decoded f frame.slots frame.marks lent lent_map
           (record { limits = limits; slots_size = a.channel.slots_size; marks_size = a.channel.marks_size; marks_small = a.channel.zero_or_one; area_size_lem = size; map_size = map_size }) answer area map
-          (settled_good answer.figures area map (omega (arith, area_size_lem, room)) (rw area_size_lem trailer_good_lem) m.sequence (length m.payload) (rw area_size_lem (sym sequence_sent)) (rw area_size_lem (sym back_sent))
-          ∙ decoded_settled f frame.slots frame.marks none_beyond (length area) answer.figures area map area_size_lem refl (sym area_found) refl)
+          (settled_good numbers.figures area map (omega (arith, area_size_lem, room)) (rw area_size_lem trailer_good_lem) m.sequence (length m.payload) (rw area_size_lem (sym sequence_sent)) (rw area_size_lem (sym back_sent))
+          ∙ decoded_settled f frame.slots frame.marks none_beyond (length area) numbers.figures area map area_size_lem refl (sym area_found) refl)
 
       -- no other answer meets the promise
       comes_back : (r : Answer) → Answers f frame r → ComesBack m r
       comes_back r p =
           let (x, y, _) = receives_once p.promise (answered_so p.lent p.lent_map p.lent_size p.map_size) in
           record {
-            number = ap (λ (z : Received). number_of z.verdict) x;
+            number = ap (λ (z : Result Received ReceiveError). number_of z) x;
             payload = ap₂ payload_of x y ∙ payload_found;
-            sequence = ap (λ (z : Received). z.sequence) x;
+            sequence = ap (λ (z : Result Received ReceiveError). (received_of z).sequence) x;
           }
 
       pub map_tells : (r : Answer) → Answers f frame r → r.map ≡ changes frame.slots a.sent

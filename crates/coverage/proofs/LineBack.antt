@@ -1,7 +1,7 @@
 -- Words that go through a delay line and are damaged within the bound come back: what leaves the receiver is, place for place, what the word's
 -- slots held, and the decoder does the rest (document 01, Delay line).
 -- Assumes nothing.
-use Rattle.std.specs.Prelude.{◌≡◌, refl, true, ℕ, ◌+◌, ◌-◌, ◌*◌, ◌%◌, ◌≤◌, ◌<◌, length, get_or, take, replicate, T}
+use Rattle.std.specs.Prelude.{◌≡◌, refl, true, Ok, ℕ, ◌+◌, ◌-◌, ◌*◌, ◌%◌, ◌≤◌, ◌<◌, length, get_or, take, replicate, T}
 use Rattle.std.proofs.Common.{sym, ap, ◌∙◌, suc-mul, arith, length-append, ext_get_or}
 use Rattle.std.proofs.Math.Bool.{false}
 use mathlib.Core.List.{List, [], append-nil}
@@ -16,7 +16,7 @@ use Rattle.word.specs.Met.{encodes_gives}
 use Rattle.rings.specs.Run.{Ran}
 use Rattle.interleave.specs.Line.{sent, received}
 use Rattle.interleave.specs.Setting.{memory_size, line_at, line_run, line_done}
-use Rattle.interleave.specs.Promises.{ready, blank, fresh_sender, send_run, SendRun}
+use Rattle.interleave.specs.Promises.{blank, fresh_sender, send_run, SendRun}
 use Rattle.interleave.specs.Calls.{sender_fresh, receiver_fresh, sender_starts, receiver_starts, fresh_run}
 use Rattle.coverage.specs.Channel.{Channel, end_to_end, word_of}
 use Rattle.coverage.specs.Line.{LineSetting, code_of, LineAllowed, delay, WordSent, fed, SenderCalls, LineSent, slot_of, on_line, LineArrives, LineReceived, leaving}
@@ -49,11 +49,11 @@ module _ (l : LineSetting) (ok : LineAllowed l) where
   line_sent bytes =
       let none = line_done (line_at I M n 0) (length (blank I M 0)) (sender_starts I M n ok.line) in
       let z : Ran = line_run false (line_at I M n 0) (blank I M 0) bytes in
-      let run : SendRun (line_at I M n 0) (blank I M 0) bytes (ready 0 (line_at I M n z.position)) z.memory z.out = record { outcome = rw none } in
+      let run : SendRun (line_at I M n 0) (blank I M 0) bytes (Ok (line_at I M n z.position)) z.memory z.out = record { outcome = rw none } in
       let own : LineSent l bytes z.out = record {
         lent = blank I M 0;
         lent_size = length-replicate (memory_size I M) 0;
-        ready = ready 0 (line_at I M n 0);
+        ready = Ok (line_at I M n 0);
         memory = blank I M 0;
         fresh = record { outcome = rw none };
         calls = rw (append-nil bytes, append-nil z.out) at (SenderCalls.run run SenderCalls.none);

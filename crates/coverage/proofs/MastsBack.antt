@@ -1,14 +1,14 @@
 -- A message that two masts heard comes back: a copy that meets its proviso returns it alone, and choosing hands back that copy or one that returned
 -- the same (document 02, No. 1).
 -- Assumes nothing.
-use Rattle.std.specs.Prelude.{◌≡◌, ◌≢◌, T}
+use Rattle.std.specs.Prelude.{◌≡◌, ◌≢◌, Option, Some, T}
 use Rattle.std.proofs.Math.Path.{sym, ap}
 use Rattle.std.proofs.Common.{ap₂, ◌∙◌, ⊎_elim, arith}
 use Rattle.std.proofs.Math.Decide.{dec_le}
 use Rattle.record.specs.Record.{noted}
 use Rattle.frame.specs.Frame.{ReceiveOutcome, allowed_frame}
 use Rattle.frame.specs.declared.setting.Framing.{Framing}
-use Rattle.link.specs.Masts.{Copy, left_of, alone, damage, MastsOutcome, giving, choosing, receiving_masts, HearMastsOutcome, hearing_masts}
+use Rattle.link.specs.Masts.{Copy, mast_of, left_of, alone, damage, MastsOutcome, giving, choosing, receiving_masts, HearMastsOutcome, hearing_masts}
 use Rattle.link.specs.Masts.Laws.{choosing_first, choosing_second, choosing_better_first, choosing_better_second, some_choice}
 use Rattle.link.specs.Promises.{each_received}
 use Rattle.link.specs.declared.choice.Mast.{Mast}
@@ -57,7 +57,7 @@ module _ (f : Framing) (m : Message) (c : Copies) (a : MastsAnswer) (p : MastsAn
   other = alone f c.second
 
   -- the answer is that of a copy that gives the message
-  handed : (mast : Mast) (o : ReceiveOutcome) → Gives m o → giving one other mast o ≡ choosing one other → MastsBack m a × (a.chosen.mast ≡ mast)
+  handed : (mast : Option Mast) (o : ReceiveOutcome) → Gives m o → giving one other mast o ≡ choosing one other → MastsBack m a × (mast_of a.chosen ≡ mast)
   unfolding receiving_masts
   handed mast o g e =
       let same = p.outcome ∙ sym e in (
@@ -69,18 +69,18 @@ module _ (f : Framing) (m : Message) (c : Copies) (a : MastsAnswer) (p : MastsAn
         ap (λ (x : MastsOutcome). x.mast) same,
       )
 
-  first_alone : Gives m one → other.number ≢ 0 → MastsBack m a × (a.chosen.mast ≡ First)
-  first_alone g n = handed First one g (choosing_first one other g.number n)
+  first_alone : Gives m one → other.number ≢ 0 → MastsBack m a × (mast_of a.chosen ≡ Some First)
+  first_alone g n = handed (Some First) one g (choosing_first one other g.number n)
 
-  second_alone : Gives m other → one.number ≢ 0 → MastsBack m a × (a.chosen.mast ≡ Second)
-  second_alone g n = handed Second other g (choosing_second one other n g.number)
+  second_alone : Gives m other → one.number ≢ 0 → MastsBack m a × (mast_of a.chosen ≡ Some Second)
+  second_alone g n = handed (Some Second) other g (choosing_second one other n g.number)
 
   either : Gives m one → Gives m other → MastsBack m a
   either g h =
       let s = g.sequence ∙ sym h.sequence in
       elim (dec_le (damage one.figures) (damage other.figures)) [
-        | yes l ↦ (handed First one g (choosing_better_first one other g.number h.number s l)).0
-        | no n ↦ (handed Second other h (choosing_better_second one other g.number h.number s (omega arith))).0
+        | yes l ↦ (handed (Some First) one g (choosing_better_first one other g.number h.number s l)).0
+        | no n ↦ (handed (Some Second) other h (choosing_better_second one other g.number h.number s (omega arith))).0
       ]
 
   back : T (allowed_frame f) → MastsArrive f m c → MastsBack m a

@@ -1,17 +1,18 @@
 -- Each frame of a replay that is damaged within the bound comes back, whatever became of the others: the promise says of each that it is heard as by
 -- its own call.
 -- Assumes nothing.
-use Rattle.std.specs.Prelude.{◌≡◌, true, ℕ, ◌≤◌, ◌<◌, T}
+use Rattle.std.specs.Prelude.{◌≡◌, refl, Result, Ok, Err, ℕ, ◌≤◌, ◌<◌, T}
 use Rattle.std.proofs.Common.{sym, ◌∙◌, arith}
 use Rattle.std.proofs.Math.Path.{ap, ap₂}
 use mathlib.Core.List.{List}
 use Rattle.algebra.specs.Tests.{at, passed}
 use Rattle.algebra.specs.Lists.{part}
-use Rattle.frame.specs.Frame.{area_size, slot_count, allowed_frame, ReceiveOutcome, receive_outcome, receiving, number_of, is_done, payload_in, payload_of}
+use Rattle.frame.specs.Frame.{area_size, slot_count, allowed_frame, ReceiveOutcome, receive_outcome, receiving, number_of, received_of, payload_in, payload_of}
 use Rattle.frame.specs.Frame.Limits.{FrameAllowed, frame_kept}
 use Rattle.frame.specs.declared.setting.Framing.{Framing}
-use Rattle.frame.specs.declared.setting.Verdict.{Verdict}
-use Rattle.frame.specs.declared.setting.Verdict.TheVariants.{Done, BadSetting, BadLength, BadMark, BeyondReach, BadTrailer}
+use Rattle.frame.specs.Receiving.{refusal_some}
+use Rattle.frame.specs.declared.setting.ReceiveError.{ReceiveError}
+use Rattle.frame.specs.declared.setting.Received.{Received}
 use Rattle.record.specs.Record.{noted}
 use Rattle.link.specs.Receiver.{HearOutcome, hearing}
 use Rattle.link.specs.Replay.{frames_in, result_of}
@@ -24,14 +25,11 @@ use Rattle.coverage.specs.Replay.{frame_at, Called, after, ComesBackAt}
 use Rattle.coverage.specs.Coverage.{ReplayComesBack}
 use Rattle.coverage.proofs.FrameBack.{frame_comes_back}
 
--- only an accepted frame's number is 0
-done : (v : Verdict) → number_of v ≡ 0 → is_done v ≡ true
-done Done e = λ i. true
-done BadSetting e = absurd (omega arith)
-done BadLength e = absurd (omega arith)
-done BadMark e = absurd (omega arith)
-done (BeyondReach w) e = absurd (omega arith)
-done BadTrailer e = absurd (omega arith)
+-- only an accepted frame's number is 0, and it hands back what its `back` says
+handed : (r : Result Received ReceiveError) (area : List ℕ) → number_of r ≡ 0 → payload_of r area ≡ payload_in (received_of r).back area
+unfolding payload_of
+handed (Ok r) area e = refl
+handed (Err x) area e = absurd (omega (arith, refusal_some x))
 
 module _ (f : Framing) (ok : T (allowed_frame f)) (many : ℕ) (few : many ≤ 64) (slots marks : List ℕ) (c : Called f many slots marks) where
   limits : FrameAllowed f
@@ -77,11 +75,11 @@ module _ (f : Framing) (ok : T (allowed_frame f)) (many : ℕ) (few : many ≤ 6
         })
 
     at_place : ComesBackAt m c i
-    unfolding hearing result_of payload_of
+    unfolding hearing result_of
     at_place = record {
       number = ap (λ (r : List ℕ). at r 0) heard.result ∙ back.number;
       sequence = ap (λ (r : List ℕ). at r 2) heard.result ∙ back.sequence;
-      payload = ap (λ (r : List ℕ). payload_in (at r 3) own.area) heard.result ∙ rw (done _ back.number) at back.payload;
+      payload = ap (λ (r : List ℕ). payload_in (at r 3) own.area) heard.result ∙ sym (handed heard.answer own.area back.number) ∙ back.payload;
       turn = ap (λ (o : HearOutcome). o.next) heard.hears.outcome ∙ ap (λ (o : ReceiveOutcome). noted (after c i) o.number o.sequence) (sym frame_told) ∙ ap₂ (noted (after c i)) back.number back.sequence;
     }
 

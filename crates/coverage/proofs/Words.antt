@@ -1,6 +1,6 @@
 -- One word whose slots are within the bound: what the promises of `decode` and `decode_part` say of it.
 -- Assumes nothing.
-use Rattle.std.specs.Prelude.{◌≡◌, refl, List, ℕ, ◌^◌, ◌<◌, length, take, T}
+use Rattle.std.specs.Prelude.{◌≡◌, refl, Result, Ok, List, ℕ, ◌^◌, ◌<◌, length, take, T}
 use Rattle.std.proofs.Common.{ap, arith, lit<}
 use Rattle.std.proofs.Math.Option.{some}
 use Rattle.algebra.specs.Tests.{at, below, below_at, below_all}
@@ -15,8 +15,8 @@ use Rattle.word.specs.Promises.{Decodes, DecodesPart, decodes_once, decodes_part
 use Rattle.word.specs.Refusals.{Checked}
 use Rattle.word.specs.Met.{decode_found, part_found}
 use Rattle.word.specs.declared.Setting.{Setting}
-use Rattle.word.specs.declared.Decoded.{Decoded}
-use Rattle.word.specs.declared.Decoded.TheVariants.{Done}
+use Rattle.word.specs.declared.DecodeError.{DecodeError}
+use Rattle.word.specs.declared.Figures.{Figures}
 use Rattle.coverage.specs.Channel.{Channel, Within}
 
 -- some slots of a channel, one for each place, are a channel's too
@@ -78,18 +78,18 @@ module _ (s : Setting) (ok : T (allowed s)) (marks came : List ℕ) where
     checks = record { setting = ok; size = c.size; marks_size = c.marks_size; small = c.bytes; marks_small = c.zero_or_one }
 
     module _ (lent_map : List ℕ) (n : length lent_map ≡ s.n) where
-      -- every answer that meets the promise of `decode` is Done, and leaves the codeword that was sent
-      pub word_decoded : (d : Decoded) (word map : List ℕ) → Decodes s came marks lent_map d word map → (number_of d ≡ 0) × (word ≡ sent)
+      -- every answer that meets the promise of `decode` is Ok, and leaves the codeword that was sent
+      pub word_decoded : (d : Result Figures DecodeError) (word map : List ℕ) → Decodes s came marks lent_map d word map → (number_of d ≡ 0) × (word ≡ sent)
       word_decoded d word map p =
           let (x, y, _) = decodes_once p (decode_found s came marks lent_map n checks sent (figures marks came sent) (changes came sent) word_corrected refl refl) in
           (ap number_of x, y)
 
       -- what `decode_part` promises of it
-      pub part_given : (lent : List ℕ) → length lent ≡ message_size s → DecodesPart s came marks lent lent_map (Done (figures marks came sent)) (take (message_size s) sent) (changes came sent)
+      pub part_given : (lent : List ℕ) → length lent ≡ message_size s → DecodesPart s came marks lent lent_map (Ok (figures marks came sent)) (take (message_size s) sent) (changes came sent)
       part_given lent k = part_found s came marks lent lent_map k n checks sent (figures marks came sent) (changes came sent) word_corrected refl refl
 
-      -- and every one that meets that of `decode_part` is Done, and leaves its message
-      pub part_decoded : (d : Decoded) (lent part map : List ℕ) → length lent ≡ message_size s → DecodesPart s came marks lent lent_map d part map → (number_of d ≡ 0) × (part ≡ take (message_size s) sent)
+      -- and every one that meets that of `decode_part` is Ok, and leaves its message
+      pub part_decoded : (d : Result Figures DecodeError) (lent part map : List ℕ) → length lent ≡ message_size s → DecodesPart s came marks lent lent_map d part map → (number_of d ≡ 0) × (part ≡ take (message_size s) sent)
       part_decoded d lent part map k p =
           let (x, y, _) = decodes_part_once p (part_given lent k) in
           (ap number_of x, y)

@@ -1,6 +1,6 @@
 -- The demand is not empty: here are a frame, its copies at two masts, two frames end to end and a delay line that it speaks of.
 -- Assumes nothing.
-use Rattle.std.specs.Prelude.{◌≡◌, refl, Bool, true, false, ◌&&◌, ◌||◌, List, [], ◌∷◌, ℕ, zero, suc, ◌+◌, T, eqb, leb, ltb, length, replicate}
+use Rattle.std.specs.Prelude.{◌≡◌, refl, Ok, Err, Bool, true, false, ◌&&◌, ◌||◌, List, [], ◌∷◌, ℕ, zero, suc, ◌+◌, T, eqb, leb, ltb, length, replicate}
 use Rattle.std.proofs.Common.{sym, inl, arith, lit≤, eqb→eq, leb→le, ltb→lt}
 use Rattle.std.proofs.Math.Decide.{ℕ_discrete}
 use Rattle.algebra.specs.Xor.{◌⊕◌}
@@ -15,14 +15,13 @@ use Rattle.word.specs.Codeword.{is_codeword}
 use Rattle.word.specs.Code.{encoded}
 use Rattle.word.specs.Code.Laws.{encoded_only}
 use Rattle.word.specs.Met.{encode_done}
-use Rattle.word.specs.declared.Encoded.TheVariants as E
 use Rattle.rings.specs.Delay.{answer, memory, position, line_out, line_kept}
 use Rattle.rings.specs.Rings.{ring, tri}
 use Rattle.interleave.specs.Line.{period, common}
-use Rattle.frame.specs.Frame.{allowed_frame, refused_with, receive_refusal}
+use Rattle.frame.specs.Frame.{allowed_frame, receive_refusal}
 use Rattle.frame.specs.Receiving.{receive_refused}
 use Rattle.frame.specs.FrameExample.{example, slots_out, slots_in, sent_example}
-use Rattle.frame.specs.declared.setting.Sent.TheVariants.{Done}
+use Rattle.frame.specs.declared.setting.ReceiveError.TheVariants.{BadLength}
 use Rattle.coverage.specs.Channel.{end_to_end, Layout, OnWords, AllWithin, Struck, OneRun}
 use Rattle.coverage.specs.Frame.{Message, FrameSent, in_frame, in_frames, Frame, Arrives, StreamArrives}
 use Rattle.link.specs.Masts.{copy_of}
@@ -76,7 +75,7 @@ frame_sent = record {
   fits = record { short = lit≤ tt; bytes = tt; number = lit≤ tt };
   lent = replicate 10 0;
   lent_size = refl;
-  answer = Done;
+  answer = Ok tt;
   promise = record { outcome = sym sent_example };
 }
 
@@ -97,8 +96,8 @@ copies = record { first = copy_of slots_in (replicate 10 0) (replicate 6 0) (rep
 second_refused : Refused example copies.second
 unfolding receive_refusal allowed_frame allowed is_field
 second_refused = record {
-  answer = record { received = refused_with 2 0; area = []; map = [] };
-  promise = receive_refused example [] [] [] [] 2 (need_yes (decided (allowed_frame example)) 1 _ 2 tt (need_no (ℕ_discrete 0 10) 2 _ λ e. absurd (omega arith))) (lit≤ tt);
+  answer = record { received = Err BadLength; area = []; map = [] };
+  promise = receive_refused example [] [] [] [] BadLength (need_yes (decided (allowed_frame example)) 1 _ 2 tt (need_no (ℕ_discrete 0 10) 2 _ λ e. absurd (omega arith)));
   number = λ e. absurd (omega arith);
 }
 
@@ -161,7 +160,7 @@ word_sent message word size bytes e = record {
   bytes = bytes;
   lent = replicate 4 0;
   lent_size = refl;
-  answer = E.Done;
+  answer = Ok tt;
   promise = encode_done (code_of line) message (replicate 4 0) (record { setting = line_allowed.code; size = size; word_size = refl; small = bytes }) word e;
 }
 

@@ -1,12 +1,14 @@
 -- Demand 3: what is sent over a block frame or a delay line and damaged within the bound comes back as sent. Each sentence of the demand is a
 -- statement here; proofs/Proved.antt proves them. They speak of the promises of the calls below, and of no code.
 -- Assumes nothing.
-use Rattle.std.specs.Prelude.{◌≡◌, List, [], ℕ, ◌+◌, ◌-◌, ◌*◌, ◌≤◌, ◌<◌, length, get_or, T}
+use Rattle.std.specs.Prelude.{◌≡◌, Some, List, [], ℕ, ◌+◌, ◌-◌, ◌*◌, ◌≤◌, ◌<◌, length, get_or, T}
 use Rattle.word.specs.Map.{changes}
 use Rattle.frame.specs.Frame.{allowed_frame}
 use Rattle.frame.specs.declared.setting.Framing.{Framing}
 use Rattle.record.specs.Record.{noted}
 use Rattle.record.specs.declared.Record.{Record}
+use Rattle.link.specs.Masts.{mast_of}
+use Rattle.link.specs.Replay.{replay_number, frames_heard}
 use Rattle.link.specs.declared.choice.Mast.TheVariants.{First, Second}
 use Rattle.coverage.specs.Each.{Each}
 use Rattle.coverage.specs.Channel.{Covered, OneRun, SomeRuns, MarkedRuns}
@@ -95,8 +97,8 @@ NoTwoMastsAlike =
 abbrev pub RefusedTakesNothing : Type 0
 RefusedTakesNothing =
     (f : Framing) → T (allowed_frame f) → (m : Message) (copies : Copies) (a : MastsAnswer) → MastsAnswers f copies a
-    → (CopyArrives f m copies.first → Refused f copies.second → MastsBack m a × (a.chosen.mast ≡ First))
-    × (CopyArrives f m copies.second → Refused f copies.first → MastsBack m a × (a.chosen.mast ≡ Second))
+    → (CopyArrives f m copies.first → Refused f copies.second → MastsBack m a × (mast_of a.chosen ≡ Some First))
+    × (CopyArrives f m copies.second → Refused f copies.first → MastsBack m a × (mast_of a.chosen ≡ Some Second))
 
 pub record TwoMasts : Type 0 where
   pub back : TwoMastsComeBack
@@ -110,7 +112,7 @@ pub record TwoMasts : Type 0 where
 abbrev pub ReplayComesBack : Type 0
 ReplayComesBack =
     (f : Framing) → T (allowed_frame f) → (many : ℕ) → many ≤ 64 → (slots marks : List ℕ) (c : Called f many slots marks)
-    → (c.answer.number ≡ 0) × (c.answer.frames ≡ many) × (c.next ≡ after c many)
+    → (replay_number c.answer ≡ 0) × (frames_heard c.answer ≡ many) × (c.next ≡ after c many)
     × ((i : ℕ) → i < many → (m : Message) → Arrives f m (frame_at f i slots marks) → ComesBackAt m c i)
 
 -- ---- Beyond the demand: runs that the receiver has marked may be as long as depth · r, since a marked symbol costs half of an unmarked one.

@@ -1,13 +1,14 @@
 -- A message sent in a frame, and what is answered to the slots that arrive (document 01, Block interleaver and frame). All of it speaks of the
 -- promises of `send` and `receive`.
 -- Assumes nothing.
-use Rattle.std.specs.Prelude.{◌≡◌, List, ℕ, ◌+◌, ◌-◌, ◌*◌, ◌/◌, ◌%◌, ◌≤◌, ◌<◌, length, T}
+use Rattle.std.specs.Prelude.{◌≡◌, Result, List, ℕ, ◌+◌, ◌-◌, ◌*◌, ◌/◌, ◌%◌, ◌≤◌, ◌<◌, length, T}
 use Rattle.algebra.specs.Tests.{below}
 use Rattle.algebra.specs.Lists.{tabulate, part}
-use Rattle.frame.specs.Frame.{area_size, slot_count, payload_of, number_of}
+use Rattle.frame.specs.Frame.{area_size, slot_count, payload_of, number_of, received_of}
 use Rattle.frame.specs.Promises.{Sends, Receives}
 use Rattle.frame.specs.declared.setting.Framing.{Framing}
-use Rattle.frame.specs.declared.setting.Sent.{Sent}
+use Rattle.frame.specs.declared.setting.SendError.{SendError}
+use Rattle.frame.specs.declared.setting.ReceiveError.{ReceiveError}
 use Rattle.frame.specs.declared.setting.Received.{Received}
 use Rattle.coverage.specs.Channel.{Channel, end_to_end, Layout, AllWithin, OneRun}
 use Rattle.coverage.specs.Each.{Each}
@@ -29,7 +30,7 @@ pub record FrameSent (f : Framing) (m : Message) (slots : List ℕ) : Type 0 whe
   pub fits : Fits f m
   pub lent : List ℕ
   pub lent_size : length lent ≡ slot_count f
-  pub answer : Sent
+  pub answer : Result (Unit {0}) SendError
   pub promise : Sends f m.payload m.sequence lent answer slots
 
 -- ---- on the channel
@@ -69,7 +70,7 @@ frames_of f many slots marks = tabulate many λ i. record { slots = part (slot_c
 
 -- an answer of `receive` with the area and the map it leaves; it meets the promise for a frame, any lent area of A bytes and any map of n·J marks
 pub record Answer : Type 0 where
-  pub received : Received
+  pub received : Result Received ReceiveError
   pub area : List ℕ
   pub map : List ℕ
 
@@ -82,6 +83,6 @@ pub record Answers (f : Framing) (frame : Frame) (a : Answer) : Type 0 where
 
 -- the frame is accepted, with the message's payload and sequence number
 pub record ComesBack (m : Message) (a : Answer) : Type 0 where
-  pub number : number_of a.received.verdict ≡ 0
+  pub number : number_of a.received ≡ 0
   pub payload : payload_of a.received a.area ≡ m.payload
-  pub sequence : a.received.sequence ≡ m.sequence
+  pub sequence : (received_of a.received).sequence ≡ m.sequence

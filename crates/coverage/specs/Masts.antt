@@ -1,14 +1,15 @@
 -- A message heard by two masts (document 02, No. 1): its copies, and what both are answered together. All of it speaks of the promises of the
 -- calls.
 -- Assumes nothing.
-use Rattle.std.specs.Prelude.{◌≡◌, ◌⊎◌, ◌≢◌, length}
+use Rattle.std.specs.Prelude.{◌≡◌, Result, ◌⊎◌, ◌≢◌, length}
 use Rattle.frame.specs.Frame.{area_size, slot_count, number_of}
 use Rattle.frame.specs.Promises.{Receives}
 use Rattle.frame.specs.declared.setting.Framing.{Framing}
 use Rattle.record.specs.declared.Record.{Record}
-use Rattle.link.specs.Masts.{Copy, Left, payload_of_used, used_copy}
+use Rattle.link.specs.Masts.{Copy, Left, masts_number, chosen_of, payload_of_used}
 use Rattle.link.specs.Promises.{ReceivesMasts, HearsMasts}
 use Rattle.link.specs.declared.choice.Chosen.{Chosen}
+use Rattle.link.specs.declared.choice.MastsError.{MastsError}
 use Rattle.coverage.specs.Frame.{Message, Frame, Arrives, Answer, ComesBack}
 
 -- ---- one copy
@@ -30,7 +31,7 @@ Alone f c a = Receives f c.slots c.marks c.area c.map a.received a.area a.map
 pub record Refused (f : Framing) (c : Copy) : Type 0 where
   pub answer : Answer
   pub promise : Alone f c answer
-  pub number : number_of answer.received.verdict ≢ 0
+  pub number : number_of answer.received ≢ 0
 
 -- it returns this message's frame, whatever damage it took
 pub record Returned (f : Framing) (m : Message) (c : Copy) : Type 0 where
@@ -54,7 +55,7 @@ MastsArrive f m c =
 
 -- with what it leaves for the two copies
 pub record MastsAnswer : Type 0 where
-  pub chosen : Chosen
+  pub chosen : Result Chosen MastsError
   pub first : Left
   pub second : Left
 
@@ -68,6 +69,6 @@ MastsHeard before f c a next = HearsMasts before f c.first c.second a.chosen nex
 
 -- a frame is handed back, with the message's payload and sequence number
 pub record MastsBack (m : Message) (a : MastsAnswer) : Type 0 where
-  pub number : a.chosen.number ≡ 0
-  pub payload : payload_of_used a.chosen.mast (used_copy a.chosen) a.first.area a.second.area ≡ m.payload
-  pub sequence : a.chosen.sequence ≡ m.sequence
+  pub number : masts_number a.chosen ≡ 0
+  pub payload : payload_of_used a.chosen a.first.area a.second.area ≡ m.payload
+  pub sequence : (chosen_of a.chosen).sequence ≡ m.sequence

@@ -1,6 +1,6 @@
 -- Frames that lie end to end and are heard by one call (document 02, No. 2). All of it speaks of the promise of `replay`.
 -- Assumes nothing.
-use Rattle.std.specs.Prelude.{◌≡◌, List, ℕ, ◌+◌, ◌*◌, length}
+use Rattle.std.specs.Prelude.{◌≡◌, Result, List, ℕ, ◌+◌, ◌*◌, length}
 use Rattle.algebra.specs.Tests.{at}
 use Rattle.algebra.specs.Lists.{part}
 use Rattle.frame.specs.Frame.{area_size, slot_count, payload_in}
@@ -9,7 +9,7 @@ use Rattle.record.specs.Record.{noted}
 use Rattle.record.specs.declared.Record.{Record}
 use Rattle.link.specs.Replay.{record_after}
 use Rattle.link.specs.Promises.{Replays}
-use Rattle.link.specs.declared.replaying.Replayed.{Replayed}
+use Rattle.link.specs.declared.replaying.ReplayError.{ReplayError}
 use Rattle.coverage.specs.Frame.{Message, Frame}
 
 -- frame i of such slots
@@ -27,7 +27,7 @@ pub record Called (f : Framing) (many : ℕ) (slots marks : List ℕ) : Type 0 w
   pub maps_size : length lent_maps ≡ many * slot_count f
   pub lent_results : List ℕ
   pub results_size : length lent_results ≡ many * 52
-  pub answer : Replayed
+  pub answer : Result ℕ ReplayError
   pub next : Record
   pub areas : List ℕ
   pub maps : List ℕ

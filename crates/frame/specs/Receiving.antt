@@ -46,7 +46,7 @@ module _ (f : Framing) (slots marks : List ℕ) where
 -- ---- the checks
 
 -- a refusal's number is not 0
-refusal_some : (e : ReceiveError) → 0 < error_number e
+pub refusal_some : (e : ReceiveError) → 0 < error_number e
 refusal_some BadSetting = omega arith
 refusal_some BadLength = omega arith
 refusal_some BadMark = omega arith

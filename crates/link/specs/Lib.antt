@@ -1,4 +1,5 @@
 pub mod Receiver
 pub mod Masts
+pub mod MastCopies
 pub mod Replay
 pub mod Promises

@@ -9,7 +9,7 @@ use Rattle.record.specs.Promises.{Notes}
 use Rattle.link.specs.Receiver.{HearOutcome, hear_outcome, hearing}
 use Rattle.link.specs.Masts.{Copy, alone, Left, left_by, MastsOutcome, choosing, masts_number, chosen_of, chosen_outcome, Chooses, receiving_masts, HearMastsOutcome, hear_masts_outcome, hearing_masts, handed_back_masts, payload_of_used}
 use Rattle.link.specs.Masts.Laws.{own_left}
-use Rattle.link.specs.Replay.{ReplayOutcome, replay_number, frames_of, replay_outcome, replaying}
+use Rattle.link.specs.Replay.{ReplayOutcome, replay_number, frames_heard, replay_outcome, replaying}
 use Rattle.link.specs.declared.choice.Mast.{Mast}
 use Rattle.link.specs.declared.choice.Chosen.{Chosen}
 use Rattle.link.specs.declared.choice.MastsError.{MastsError}
@@ -60,7 +60,7 @@ pub record Replays (before : Record) (f : Framing) (slots marks areas maps resul
 replayed_as : (number frames : ℕ) → Result ℕ ReplayError
 replayed_as k frames = if eqb k 0 then Ok frames else if eqb k 1 then Err P.BadSetting else Err P.BadLength
 
-replayed_as_lem : (r : Result ℕ ReplayError) → replayed_as (replay_number r) (frames_of r) ≡ r
+replayed_as_lem : (r : Result ℕ ReplayError) → replayed_as (replay_number r) (frames_heard r) ≡ r
 unfolding replayed_as
 replayed_as_lem (Ok frames) = refl
 replayed_as_lem (Err P.BadSetting) = refl

@@ -68,12 +68,12 @@ replay_number (Ok a) = 0
 replay_number (Err BadSetting) = 1
 replay_number (Err BadLength) = 2
 
-abbrev pub frames_of : Result ℕ ReplayError → ℕ
-frames_of (Ok frames) = frames
-frames_of (Err e) = 0
+abbrev pub frames_heard : Result ℕ ReplayError → ℕ
+frames_heard (Ok frames) = frames
+frames_heard (Err e) = 0
 
 abbrev pub replay_outcome : Result ℕ ReplayError → Record → (areas maps results : List ℕ) → ReplayOutcome
-replay_outcome answer next areas maps results = record { number = replay_number answer; frames = frames_of answer; areas = areas; maps = maps; results = results; next = next }
+replay_outcome answer next areas maps results = record { number = replay_number answer; frames = frames_heard answer; areas = areas; maps = maps; results = results; next = next }
 
 -- so many frames are heard, one after the other
 abbrev pub heard_in_turn : Record → Framing → (slots marks areas maps : List ℕ) → ℕ → ReplayOutcome

@@ -30,5 +30,6 @@ pub use replaying::{ReplayError, ReplayHeard, replay, replay_in};
 // Two masts.
 pub use choice::{Chosen, Mast, MastsError};
 pub use masts::{
-    MastsHeard, hear_masts, hear_masts_in, masts_payload, receive_masts, receive_masts_part,
+    MastCopy, MastsHeard, hear_masts, hear_masts_in, masts_payload, receive_masts,
+    receive_masts_part,
 };

@@ -1,13 +1,23 @@
 // Two masts: document 02, No. 1. Two receivers hear one frame, each with its own damage. Both copies are decoded, each into an area of its
 // own and with a map of its own, and one frame is handed back and noted.
 ghost use Rattle.std.specs.Prelude.{map};
-ghost use Rattle.link.specs.Masts.{copy_of, left_of};
+ghost use Rattle.link.specs.Masts.{copy_of};
+ghost use Rattle.link.specs.MastCopies.{copied, left_in, Lent};
 ghost use Rattle.link.specs.Promises.{ReceivesMasts, HandsBackOne, ReceivesMastsPart, HearsMasts};
 
 use crate::choice::{Chosen, Mast, MastsError, choose};
 use crate::numbers::{chosen_of, masts_number};
 use frame::{Framing, payload, receive};
 use record::{Record, note};
+
+// A copy of a frame as one mast heard it: its slots with their marks, and the area and the map that are lent for it.
+#[derive(Drop)]
+pub struct MastCopy<'a> {
+    pub slots: &'a [u8],
+    pub marks: &'a [u8],
+    pub area: &'a mut [u8],
+    pub map: &'a mut [u8],
+}
 
 // What hearing two copies gives: the record after them, and what they were answered together.
 #[derive(Drop)]
@@ -19,19 +29,14 @@ pub struct MastsHeard {
 // Decodes each copy into its area and map as `receive` does, and answers the better one. A copy that is refused leaves the other as it is.
 pub fn receive_masts(
     f: Framing,
-    slots1: &[u8],
-    marks1: &[u8],
-    area1: &mut [u8],
-    map1: &mut [u8],
-    slots2: &[u8],
-    marks2: &[u8],
-    area2: &mut [u8],
-    map2: &mut [u8],
+    first: &mut MastCopy,
+    second: &mut MastCopy,
 ) -> Result<Chosen, MastsError>
-    ensures { ReceivesMasts f (copy_of slots1.now marks1.now area1.old map1.old) (copy_of slots2.now marks2.now area2.old map2.old) result (left_of area1.new map1.new) (left_of area2.new map2.new) }
+    ensures received { ReceivesMasts f (copied first.old) (copied second.old) result (left_in first.new) (left_in second.new) }
+    ensures lent { Lent first.old first.new × Lent second.old second.new }
 {
-    let one = receive(f, slots1, marks1, area1, map1);
-    let other = receive(f, slots2, marks2, area2, map2);
+    let one = receive(f, first.slots, first.marks, first.area, first.map);
+    let other = receive(f, second.slots, second.marks, second.area, second.map);
     choose(one, other)
 }
 
@@ -52,7 +57,8 @@ pub fn masts_payload<'a>(
     }
 }
 
-// Decodes both copies as `receive_masts` does, and hands back both whole areas and the payload as a part of one of them.
+// Decodes both copies as `receive_masts` does, and hands back both whole areas and the payload as a part of one of them. The areas come back as
+// long as they are lent, so each stands here by itself, and not in a copy that is only lent on.
 pub fn receive_masts_part<'a>(
     f: Framing,
     slots1: &[u8],
@@ -66,17 +72,19 @@ pub fn receive_masts_part<'a>(
 ) -> [&'a [u8]; 3]
     ensures { ReceivesMastsPart f (copy_of slots1.now marks1.now area1.old map1.old) (copy_of slots2.now marks2.now area2.old map2.old) (map (λ x. x.now) result) map1.new map2.new }
 {
-    let r = receive_masts(
-        f,
-        slots1,
-        marks1,
-        &mut area1[..],
-        map1,
-        slots2,
-        marks2,
-        &mut area2[..],
-        map2,
-    );
+    let mut first = MastCopy {
+        slots: slots1,
+        marks: marks1,
+        area: &mut area1[..],
+        map: map1,
+    };
+    let mut second = MastCopy {
+        slots: slots2,
+        marks: marks2,
+        area: &mut area2[..],
+        map: map2,
+    };
+    let r = receive_masts(f, &mut first, &mut second);
     let s = &area1[..];
     let t = &area2[..];
     let p = masts_payload(s, t, r);
@@ -87,18 +95,13 @@ pub fn receive_masts_part<'a>(
 pub fn hear_masts(
     before: Record,
     f: Framing,
-    slots1: &[u8],
-    marks1: &[u8],
-    area1: &mut [u8],
-    map1: &mut [u8],
-    slots2: &[u8],
-    marks2: &[u8],
-    area2: &mut [u8],
-    map2: &mut [u8],
+    first: &mut MastCopy,
+    second: &mut MastCopy,
 ) -> MastsHeard
-    ensures { HearsMasts before f (copy_of slots1.now marks1.now area1.old map1.old) (copy_of slots2.now marks2.now area2.old map2.old) result.answer result.next (left_of area1.new map1.new) (left_of area2.new map2.new) }
+    ensures heard { HearsMasts before f (copied first.old) (copied second.old) result.answer result.next (left_in first.new) (left_in second.new) }
+    ensures lent { Lent first.old first.new × Lent second.old second.new }
 {
-    let answer = receive_masts(f, slots1, marks1, area1, map1, slots2, marks2, area2, map2);
+    let answer = receive_masts(f, first, second);
     let next = note(before, masts_number(answer), chosen_of(answer).sequence);
     MastsHeard { next, answer }
 }
@@ -107,20 +110,13 @@ pub fn hear_masts(
 pub fn hear_masts_in(
     lent: &mut Record,
     f: Framing,
-    slots1: &[u8],
-    marks1: &[u8],
-    area1: &mut [u8],
-    map1: &mut [u8],
-    slots2: &[u8],
-    marks2: &[u8],
-    area2: &mut [u8],
-    map2: &mut [u8],
+    first: &mut MastCopy,
+    second: &mut MastCopy,
 ) -> Result<Chosen, MastsError>
-    ensures { HearsMasts lent.old f (copy_of slots1.now marks1.now area1.old map1.old) (copy_of slots2.now marks2.now area2.old map2.old) result lent.new (left_of area1.new map1.new) (left_of area2.new map2.new) }
+    ensures heard { HearsMasts lent.old f (copied first.old) (copied second.old) result lent.new (left_in first.new) (left_in second.new) }
+    ensures lent { Lent first.old first.new × Lent second.old second.new }
 {
-    let heard = hear_masts(
-        *lent, f, slots1, marks1, area1, map1, slots2, marks2, area2, map2,
-    );
+    let heard = hear_masts(*lent, f, first, second);
     *lent = heard.next;
     heard.answer
 }

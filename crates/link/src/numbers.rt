@@ -2,7 +2,7 @@
 // document 02, Nos. 1 and 2.
 ghost use Rattle.std.specs.Prelude.{◌≡◌};
 ghost use Rattle.link.specs.Masts.{masts_number, masts_word, chosen_of};
-ghost use Rattle.link.specs.Replay.{replay_number, frames_of};
+ghost use Rattle.link.specs.Replay.{replay_number, frames_heard};
 
 use crate::choice::{Chosen, MastsError};
 use crate::replaying::ReplayError;
@@ -52,8 +52,8 @@ pub fn replay_number(answer: Result<usize, ReplayError>) -> u8
 }
 
 // How many frames were heard; none where all are refused.
-pub fn frames_of(answer: Result<usize, ReplayError>) -> usize
-    ensures { result ≡ frames_of answer }
+pub fn frames_heard(answer: Result<usize, ReplayError>) -> usize
+    ensures { result ≡ frames_heard answer }
 {
     answer.unwrap_or(0)
 }

@@ -4,6 +4,7 @@ ghost use Rattle.std.specs.Prelude.{◌≡◌, ◌+◌, ◌*◌, ◌≤◌, ◌<
 ghost use Rattle.text.specs.Page.{Writes, WritesWithin};
 ghost use Rattle.reader.specs.Lines.{first_line, word_line, word_lines, slots_line, slot_text, frame_text};
 
+use link::Received;
 use text::Page;
 use word::Figures;
 
@@ -66,19 +67,12 @@ fn put_slots(map: &[u8], page: &mut Page)
 }
 
 // Writes the whole text of an accepted frame, whose payload has at most 4,080 bytes and whose map as many marks.
-pub fn put_frame(
-    depth: usize,
-    sequence: u16,
-    figures: [Figures; 16],
-    payload: &[u8],
-    map: &[u8],
-    page: &mut Page,
-)
+pub fn put_frame(depth: usize, frame: Received, payload: &[u8], map: &[u8], page: &mut Page)
     requires { (depth ≤ 16) × (length payload.now ≤ 4080) × (length map.now ≤ 4080) × (page.old.end + 796 + 2 * length payload.now + 5 * length map.now ≤ length page.old.text.now) }
-    ensures { Writes (frame_text depth sequence figures payload.now map.now) page.old page.new }
+    ensures { Writes (frame_text depth frame.sequence frame.figures payload.now map.now) page.old page.new }
 {
-    put_first(sequence, payload.len(), page);
-    put_words(depth, figures, page);
+    put_first(frame.sequence, payload.len(), page);
+    put_words(depth, frame.figures, page);
     page.put_hexes(payload);
     page.put_byte(b'\n');
     put_slots(map, page);

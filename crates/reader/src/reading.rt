@@ -31,22 +31,13 @@ fn put_answer(
     requires { (f.depth ≤ 16) × (length area.old ≤ 4080) × (length map.old ≤ 4080) × (page.old.end + 30000 ≤ length page.old.text.now) }
     ensures { Writes (told f.depth (receiving f slots.now marks.now area.old map.old)) page.old page.new }
 {
-    let answer = link::receive(f, slots, marks, area, map);
-    let verdict = answer.verdict;
-    let number = number_of(verdict);
-    if number != 0 {
-        page.put_refusal(number);
-        return;
+    match link::receive(f, slots, marks, area, map) {
+        Ok(frame) => {
+            let payload = link::payload(area, Ok(frame));
+            put_frame(f.depth, frame, payload, map, page);
+        }
+        Err(reason) => page.put_refusal(number_of(Err(reason))),
     }
-    let figures = answer.figures;
-    put_frame(
-        f.depth,
-        answer.sequence,
-        figures,
-        link::payload(area, answer),
-        map,
-        page,
-    );
 }
 
 // The same of a frame without marks, in work space of its own.

@@ -8,8 +8,8 @@ use Rattle.algebra.specs.Tests.{total}
 use Rattle.algebra.specs.Refusal.{if_zero, new, kept}
 use Rattle.word.specs.declared.Figures.{Figures}
 use Rattle.frame.specs.Frame.{ReceiveOutcome, receive_outcome, refused_frame, error_number, payload_of}
+use Rattle.frame.specs.Receiving.{refusal_some}
 use Rattle.frame.specs.declared.setting.ReceiveError.{ReceiveError}
-use Rattle.frame.specs.declared.setting.ReceiveError.TheVariants.{BadSetting, BadLength, BadMark, BeyondReach, BadTrailer}
 use Rattle.frame.specs.declared.setting.Received.{Received}
 use Rattle.link.specs.Masts.{damage_at, damage, Left, left_by, MastsOutcome, giving, both_accepted, choosing, Chooses}
 use Rattle.link.specs.declared.choice.Mast.TheVariants.{First, Second}
@@ -89,13 +89,8 @@ module _ (a b : ReceiveOutcome) where
 abbrev told : Result Received ReceiveError → Left → ReceiveOutcome
 told r l = receive_outcome r l.area l.map
 
--- an error's number is not 0
 refused_some : (e : ReceiveError) → error_number e ≢ 0
-refused_some BadSetting z = absurd (omega arith)
-refused_some BadLength z = absurd (omega arith)
-refused_some BadMark z = absurd (omega arith)
-refused_some (BeyondReach w) z = absurd (omega arith)
-refused_some BadTrailer z = absurd (omega arith)
+refused_some e z = absurd (omega (arith, refusal_some e))
 
 -- one is refused, or both
 pub chooses_first : (a : Received) (e : ReceiveError) → Chooses (Ok a) (Err e) (Ok (record { mast = First; copy = a }))

@@ -7,7 +7,7 @@ use Rattle.frame.specs.declared.setting.Framing.{Framing}
 use Rattle.frame.specs.declared.setting.ReceiveError.{ReceiveError}
 use Rattle.frame.specs.declared.setting.Received.{Received}
 use Rattle.record.specs.declared.Record.{Record}
-use Rattle.link.specs.Replay.{frames_in, record_after, result_of, replay_number, frames_of}
+use Rattle.link.specs.Replay.{frames_in, record_after, result_of, replay_number, frames_heard}
 use Rattle.link.specs.Promises.{Hears, Replays}
 use Rattle.link.specs.declared.replaying.ReplayError.{ReplayError}
 
@@ -25,6 +25,6 @@ module _ {before : Record} {f : Framing} {slots marks areas maps results : List 
   -- all of them, and the last one leaves the record that goes back
   pub record EachHeard : Type 0 where
     pub number : replay_number replayed ≡ 0
-    pub count : frames_of replayed ≡ frames_in f slots
+    pub count : frames_heard replayed ≡ frames_in f slots
     pub last : next ≡ after (frames_in f slots)
     pub each : (i : ℕ) → i < frames_in f slots → FrameHeard i

@@ -1,16 +1,17 @@
 -- What is said of a frame's answer and of an input, one law for each return of the code.
 -- Assumes nothing.
-use Rattle.std.specs.Prelude.{◌≡◌, refl, Bool, true, false, List, [], ◌∷◌, ℕ, zero, suc, ◌+◌, ◌-◌, ◌≤◌, ◌<◌, leb, length, take, drop, if◌then◌else◌}
+use Rattle.std.specs.Prelude.{◌≡◌, refl, Ok, Err, Bool, true, false, List, [], ◌∷◌, ℕ, zero, suc, ◌+◌, ◌-◌, ◌≤◌, ◌<◌, leb, length, take, drop, if◌then◌else◌}
 use Rattle.std.proofs.Common.{sym, ap, not-suc-le-zero, le_of_suc-le-suc, arith, length-take, length-take-le}
 use borrow.Author.Tests.{lt-ltb, le-ltb, ne_eqb}
 use Rattle.std.proofs.Math.ListN.{length-drop}
 use Rattle.std.proofs.Math.Seq.{take_all}
 use Rattle.algebra.specs.Tests.{at}
-use Rattle.frame.specs.Frame.{slot_count, area_size, allowed_frame, ReceiveOutcome, receive_outcome, receiving, number_of, is_done, payload_in, payload_of}
+use Rattle.frame.specs.Frame.{slot_count, area_size, allowed_frame, ReceiveOutcome, receive_outcome, receiving, error_number, payload_in, payload_of}
 use Rattle.frame.specs.Frame.Limits.{FrameAllowed, slots_few, area_few}
 use Rattle.frame.specs.Checks.{receive_setting}
-use Rattle.frame.specs.Receiving.{receiving_refused}
+use Rattle.frame.specs.Receiving.{refusal_some, receiving_refused}
 use Rattle.frame.specs.declared.setting.Framing.{Framing}
+use Rattle.frame.specs.declared.setting.ReceiveError.{ReceiveError}
 use Rattle.frame.specs.declared.setting.Received.{Received}
 use Rattle.text.specs.Page.{Writes}
 use Rattle.text.specs.declared.Page.{Page}
@@ -21,25 +22,24 @@ use Rattle.reader.specs.Spoken.{blank, answer_to, told, spoken}
 
 -- ---- what is said of an answer
 
-module _ (depth : ℕ) (r : Received) (area map : List ℕ) (o : ReceiveOutcome) (e : receive_outcome r area map ≡ o) (k : ℕ) (n : k ≡ number_of r.verdict) {before after : Page} where
-  pub told_refused : (k ≡ 0 → ⊥) → Writes (refusal k) before after → Writes (told depth o) before after
+module _ (depth : ℕ) (area map : List ℕ) (o : ReceiveOutcome) {before after : Page} where
+  pub told_refused : (e : ReceiveError) → receive_outcome (Err e) area map ≡ o → (k : ℕ) → k ≡ error_number e → Writes (refusal k) before after → Writes (told depth o) before after
   unfolding told
-  told_refused z p = rw (← e, ← n, ne_eqb k 0 z) p
+  told_refused e h k n p = rw (← h, ← n, ne_eqb k 0 (λ z. omega (arith, refusal_some e))) p
 
-  pub told_accepted : k ≡ 0 → (payload : List ℕ) → payload ≡ payload_of r area → Writes (frame_text depth r.sequence r.figures payload map) before after
-      → Writes (told depth o) before after
+  pub told_accepted : (r : Received) → receive_outcome (Ok r) area map ≡ o → (payload : List ℕ) → payload ≡ payload_of (Ok r) area
+      → Writes (frame_text depth r.sequence r.figures payload map) before after → Writes (told depth o) before after
   unfolding told
-  told_accepted z payload h p = rw (← e, ← n, z, ← h) p
+  told_accepted r h payload e p = rw (← h, ← e) p
 
 -- a payload is no longer than its area
-pub payload_fits : (r : Received) (area p : List ℕ) → p ≡ payload_of r area → length p ≤ length area
+pub payload_fits : (r : Received) (area p : List ℕ) → p ≡ payload_of (Ok r) area → length p ≤ length area
 unfolding payload_of payload_in
-payload_fits r area p e = rw e (go (is_done r.verdict) (leb (r.back + 4) (length area)))
+payload_fits r area p e = rw e (go (leb (r.back + 4) (length area)))
   where
-    go : (d t : Bool) → length (if d then if t then take r.back (drop (length area - 4 - r.back) area) else [] else []) ≤ length area
-    go true true = simp (length-take, length-drop) (omega arith)
-    go true false = omega arith
-    go false t = omega arith
+    go : (t : Bool) → length (if t then take r.back (drop (length area - 4 - r.back) area) else []) ≤ length area
+    go true = simp (length-take, length-drop) (omega arith)
+    go false = omega arith
 
 -- ---- the whole text
 

@@ -5,5 +5,7 @@ use Rattle.link.specs.Promises.{masts_received_and_noted}
 use Rattle.link.proofs.masts.hear_masts.Goals as goal
 
 pub returns : goal.returns
-returns c =
-    masts_received_and_noted c.receive_masts-answer.ensures c.masts_number.ensures (ap (λ (r : Received). r.sequence) c.chosen_of.ensures) c.note-next.ensures
+returns c = record {
+  heard = masts_received_and_noted c.receive_masts-answer.ensures.received c.masts_number.ensures (ap (λ (r : Received). r.sequence) c.chosen_of.ensures) c.note-next.ensures;
+  lent = c.receive_masts-answer.ensures.lent;
+}

@@ -3,15 +3,14 @@ use native.Mathlib.Omega.{arith}
 use Rattle.reader.specs.Spoken.Answers.{told_refused, told_accepted, payload_fits}
 use Rattle.reader.proofs.reading.put_answer.Goals as goal
 
-pub returns-then-number-ne0 : goal.returns-then-number-ne0
-returns-then-number-ne0 c = told_refused _ _ _ _ _ c.receive-answer.ensures.outcome _ c.number_of-number.ensures c.if-number-ne0.true c.put_refusal.ensures
-
 pub put_frame-requires : goal.put_frame-requires
 put_frame-requires c =
-    let kept = c.receive-answer.auto in
+    let kept = c.receive.auto in
     let pre = c.requires in
-    omega (arith, payload_fits _ _ _ c.payload.ensures.outcome, kept.area, kept.map, pre.0, pre.1, pre.2, pre.3)
+    omega (arith, payload_fits _ _ _ c.payload-payload.ensures.outcome, kept.area, kept.map, pre.0, pre.1, pre.2, pre.3)
 
-pub returns : goal.returns
-returns c =
-    told_accepted _ _ _ _ _ c.receive-answer.ensures.outcome _ c.number_of-number.ensures c.if-number-ne0.false _ c.payload.ensures.outcome c.put_frame.ensures
+pub returns-in-Ok : goal.returns-in-Ok
+returns-in-Ok c = told_accepted _ _ _ _ _ c.in-Ok.ensures.outcome _ c.payload-payload.ensures.outcome c.put_frame.ensures
+
+pub returns-in-Err : goal.returns-in-Err
+returns-in-Err c = told_refused _ _ _ _ _ c.in-Err.ensures.outcome _ c.number_of.ensures c.put_refusal.ensures
