@@ -8,15 +8,13 @@ pub factor_of-f-requires : goal.factor_of-f-requires
 factor_of-f-requires c = first_below _ _ _ c.first_root.ensures
 
 pub loop-j-init : goal.loop-j-init
-loop-j-init c = (omega arith, growing_none _ _ _ _ _ c.none-g.ensures.0 c.none-g.ensures.1 (factor_first _ _ _ _ c.first_root.ensures c.factor_of-f.ensures))
+loop-j-init c = growing_none _ _ _ _ _ c.none-g.ensures.0 c.none-g.ensures.1 (factor_first _ _ _ _ c.first_root.ensures c.factor_of-f.ensures)
 
 pub loop-j-preserved : goal.loop-j-preserved
 loop-j-preserved c =
-    let o = c.loop-j in (
-      omega arith,
-      growing_more _ _ _ _ _ _ _ _ _ _ _ _ _ (omega arith) (search rules) (search rules) o.invariant.1 c.scaled.ensures c.down.ensures c.sum-g.ensures
-          (factor_next _ _ _ _ _ _ _ _ _ _ _ _ o.invariant.1.factor c.double-last.ensures),
-    )
+    let o = c.loop-j in
+    growing_more _ _ _ _ _ _ _ _ _ _ _ _ _ (omega arith) (search rules) (search rules) o.invariant c.scaled.ensures c.down.ensures c.sum-g.ensures.number
+    (factor_next _ _ _ _ _ o.invariant.factor c.double.ensures)
 
 pub returns : goal.returns
-returns c = growing_all _ _ _ _ _ _ _ (omega arith) c.loop-j.invariant.1
+returns c = growing_all _ _ _ _ _ _ _ (omega arith) c.loop-j.invariant

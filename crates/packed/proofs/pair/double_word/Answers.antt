@@ -11,8 +11,8 @@ overflow_mul-result c = record { fits = omega (arith, and_le_r c.args.x 21702051
 pub overflow_mul-result-then-m-eq3 : goal.overflow_mul-result-then-m-eq3
 overflow_mul-result-then-m-eq3 c = record { fits = omega (arith, and_le_r (c.args.x / 4) 72340172838076673) }
 
-pub returns-then-m-eq3 : goal.returns-then-m-eq3
-returns-then-m-eq3 c = doubled_3 _ _ c.if-m-eq3.true
+pub returns-then-m-eq3-clause-each : goal.returns-then-m-eq3-clause-each
+returns-then-m-eq3-clause-each c = doubled_3 _ _ c.if-m-eq3.true
 
 pub overflow_mul-result-2 : goal.overflow_mul-result-2
 overflow_mul-result-2 c = record { fits = omega (arith, and_le_r c.args.x 9187201950435737471) }
@@ -20,5 +20,5 @@ overflow_mul-result-2 c = record { fits = omega (arith, and_le_r c.args.x 918720
 pub overflow_mul-result-3 : goal.overflow_mul-result-3
 overflow_mul-result-3 c = record { fits = omega (arith, and_le_r (c.args.x / 128) 72340172838076673) }
 
-pub returns : goal.returns
-returns c = doubled_8 _ _ c.if-m-eq3.false
+pub returns-clause-each : goal.returns-clause-each
+returns-clause-each c = doubled_8 _ _ c.if-m-eq3.false
