@@ -5,4 +5,4 @@ use Rattle.std.proofs.Common.{◌≡◌, length}
 use Rattle.decoder.proofs.correct.correct.Given as goal
 
 abbrev pub invariant-loop-i : goal.invariant-loop-i
-invariant-loop-i l = (length l.rest ≡ 16) × Correcting l.m l.n l.b l.flags l.sums l.initial.word l.i l.word l.rest
+invariant-loop-i l = (length l.rest ≡ 16) × Correcting l.places.m l.places.n l.b l.flags l.sums l.initial.word l.i l.word l.rest

@@ -7,4 +7,4 @@ use Rattle.decoder.specs.Listing.{Listed}
 use Rattle.decoder.proofs.peel.Listing.of.Given as goal
 
 abbrev pub invariant-loop-i : goal.invariant-loop-i
-invariant-loop-i l = (l.count ≤ l.i) × (l.i ≤ l.n) × (length l.places ≡ 255) × Listed l.i l.flags l.count l.places
+invariant-loop-i l = (l.count ≤ l.i) × (length l.flagged ≡ 255) × Listed l.i l.flags l.count l.flagged

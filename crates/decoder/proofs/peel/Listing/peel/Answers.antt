@@ -15,10 +15,11 @@ pub loop-place-preserved : goal.loop-place-preserved
 loop-place-preserved c =
     let o = c.loop-place in
     let a = c.args.self.now in
-    let l : o.place-index < a.count = omega (arith, length-take a.count a.places) in
-    let e = c.from-i.ensures ∙ get_or-take a.count a.places o.place-index 0 l in
+    let p = a.places.now in
+    let l : o.place-index < a.count = omega (arith, length-take a.count a.flagged) in
+    let e = c.from-i.ensures ∙ get_or-take a.count a.flagged o.place-index 0 l in
     elim c.if-i-skip.branch [
-      | then-i-skip w ↦ (λ flags h. rw w.rest-is (peeled_take h l (o.invariant flags h) (rw e at w.if-i-skip.true) (rw e (a.located.entry _ (a.inside o.place-index l))) w.peel-peeled.ensures))
+      | then-i-skip w ↦ (λ flags h. rw w.rest-is (peeled_take h l (o.invariant flags h) (rw e at w.if-i-skip.true) (rw e (p.located.entry _ (a.inside o.place-index l))) w.peel-peeled.ensures))
       | else-i-skip w ↦ (λ flags h. rw w.rest-is (peeled_skip h l (o.invariant flags h) (rw e at w.if-i-skip.false)))
     ]
 

@@ -10,4 +10,5 @@ use Rattle.decoder.proofs.peel.Listing.peel.Given as goal
 abbrev pub invariant-loop-place : goal.invariant-loop-place
 invariant-loop-place l =
     let a = l.self in
-    (flags : List ℕ) → Listed a.n flags a.count a.places → Peeling a.m a.n flags l.skip l.initial.rest (from a.places l.place-index) l.rest
+    let p = a.places.now in
+    (flags : List ℕ) → Listed p.n flags a.count a.flagged → Peeling p.m p.n flags l.skip l.initial.rest (from a.flagged l.place-index) l.rest
