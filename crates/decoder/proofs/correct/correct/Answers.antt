@@ -1,5 +1,5 @@
--- `decoder::correct::correct` meets its contract. The loop's invariant (`Correcting`): the places before i are corrected, the others as they
--- were, and the power sums are those of the word as it is. The measure is the number of places left.
+-- `decoder::correct::correct` meets its contract. The loop's invariant (`Correcting`): the places before i are corrected, the others as they were, and the
+-- power sums are those of the word as it is.
 use Rattle.std.proofs.Common.{arith}
 use Rattle.decoder.specs.Corrections.{correcting_take, correcting_pass}
 use Rattle.decoder.proofs.correct.correct.Goals as goal

@@ -1,4 +1,4 @@
--- `decoder::correct::error_value` meets its contract: it is the quotient of what `peel_listed` leaves by the `distance`, with the inverse of the
+-- `decoder::correct::error_value` meets its contract: it is the quotient of what the listing's peeling leaves by the distance, with the inverse of the
 -- latter.
 use native.Mathlib.Omega.{arith}
 use lib.ListN.{get_or}

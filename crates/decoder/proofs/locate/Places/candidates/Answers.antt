@@ -1,4 +1,4 @@
--- `decoder::locate::candidates` meets its contract. The loop's invariant: the places before `i` have their flags.
+-- `decoder::locate::Places::candidates` meets its contract. The loop's invariant: the places before `i` have their flags.
 use native.Mathlib.Omega.{arith}
 use Rattle.decoder.specs.Candidates.{flags_all}
 use Rattle.decoder.proofs.locate.Places.candidates.Goals as goal

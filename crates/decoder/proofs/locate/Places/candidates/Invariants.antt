@@ -1,4 +1,4 @@
--- `decoder::locate::candidates` meets its contract. The loop's invariant: the places before `i` have their flags.
+-- `decoder::locate::Places::candidates` meets its contract. The loop's invariant: the places before `i` have their flags.
 use Rattle.algebra.specs.Tests.{at}
 use Rattle.algebra.specs.Lists.{Filled}
 use Rattle.decoder.specs.Candidates.{flag_of, value_at}

@@ -1,4 +1,5 @@
--- `decoder::locate::locators` meets its contract. The loop's invariant: the places from `i` on have their locators, and `x` is that of the place before them.
+-- `decoder::locate::Places::of` meets its contract. The loop's invariant: the places from `i` on have their locators, and `x` is that of the place before
+-- them.
 use mathlib.Core.Path.{refl, ◌∙◌}
 use Prim.Native.Nat.{◌<◌, ◌≤◌}
 use native.Mathlib.Omega.{arith}

@@ -1,5 +1,5 @@
--- `decoder::peel::distance` meets its contract. The loop's invariant (`Nearing`): what is multiplied, times the differences that are left, is
--- the distance. The measure is the number of places left.
+-- `decoder::peel::Listing::distance` meets its contract. The loop's invariant (`Nearing`): what is multiplied, times the differences that are left, is the
+-- distance.
 use Rattle.std.proofs.Common.{◌<◌, ◌∙◌, arith, length-take, get_or-take}
 use Rattle.decoder.specs.Peeling.{nearing_start}
 use Rattle.decoder.specs.Listing.{from, far_take, far_skip, far_end}

@@ -1,5 +1,5 @@
--- `decoder::peel::distance` meets its contract. The loop's invariant (`Nearing`): what is multiplied, times the differences that are left, is
--- the distance. The measure is the number of places left.
+-- `decoder::peel::Listing::distance` meets its contract. The loop's invariant (`Nearing`): what is multiplied, times the differences that are left, is the
+-- distance.
 use mathlib.Core.List.{List}
 use Prim.Native.Nat.{ℕ}
 use Rattle.decoder.specs.Peeling.{Nearing}

@@ -1,5 +1,4 @@
--- `decoder::peel::list` meets its contract. The loop's invariant (`Listed`): the flagged places before i are listed. The measure is the number
--- of places left.
+-- `decoder::peel::Listing::of` meets its contract. The loop's invariant (`Listed`): the flagged places before i are listed.
 use mathlib.Core.Path.{◌≡◌}
 use Prim.Native.Nat.{◌≤◌}
 use lib.ListN.{length}

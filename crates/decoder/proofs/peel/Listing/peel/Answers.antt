@@ -1,6 +1,5 @@
--- `decoder::peel::peel_listed` meets its contract: it peels the places in the order in which the theory does. The loop's invariant (`Peeling`):
--- to peel the places that are left, from a sequence that the sums agree with as far as they count, is to peel all. The measure is the
--- number of places left.
+-- `decoder::peel::Listing::peel` meets its contract: it peels the places in the order in which the theory does. The loop's invariant (`Peeling`): to peel
+-- the places that are left, from a sequence that the sums agree with as far as they count, is to peel all.
 use Rattle.std.proofs.Common.{◌<◌, ◌∙◌, arith, length-take, get_or-take}
 use Rattle.decoder.specs.Peeling.{peeling_start}
 use Rattle.decoder.specs.Listing.{from, peeled_take, peeled_skip, peeled_end}

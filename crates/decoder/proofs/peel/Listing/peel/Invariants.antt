@@ -1,6 +1,5 @@
--- `decoder::peel::peel_listed` meets its contract: it peels the places in the order in which the theory does. The loop's invariant (`Peeling`):
--- to peel the places that are left, from a sequence that the sums agree with as far as they count, is to peel all. The measure is the
--- number of places left.
+-- `decoder::peel::Listing::peel` meets its contract: it peels the places in the order in which the theory does. The loop's invariant (`Peeling`): to peel
+-- the places that are left, from a sequence that the sums agree with as far as they count, is to peel all.
 use mathlib.Core.List.{List}
 use Prim.Native.Nat.{ℕ}
 use Rattle.decoder.specs.Peeling.{Peeling}
