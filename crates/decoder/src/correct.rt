@@ -1,8 +1,8 @@
 // The values at the flagged places of a word, and the word and its power sums without them.
 ghost use Rattle.std.specs.Prelude.{◌≡◌, ◌<◌, ◌≤◌, length};
-ghost use Rattle.decoder.specs.Places.{Locators};
 ghost use Rattle.decoder.specs.Corrections.{Weighs, ErrorListed, TakenOut, Corrected};
 
+use crate::locate::Places;
 use crate::peel::Listing;
 use field::shifts::{inverse_at, times};
 
@@ -20,12 +20,13 @@ fn weight(b: usize, x: u8) -> u8
 // The error at place p, where all errors are at listed places: what is left of the power sums when the others are peeled, by the
 // distance of p from them.
 pub fn error_value(listing: &Listing, b: usize, sums: [u8; 16], p: usize) -> u8
-    requires { (p < listing.now.n) × (b ≤ 1) }
-    ensures { ErrorListed listing.now.m listing.now.n b listing.now.places listing.now.count sums p result }
+    requires { (p < listing.now.places.now.n) × (b ≤ 1) }
+    ensures { ErrorListed listing.now.places.now.m listing.now.places.now.n b listing.now.flagged listing.now.count sums p result }
 {
+    let places = listing.places;
     let rest = listing.peel(p, sums);
-    let far = listing.distance(p, weight(b, listing.locators[p]));
-    times(listing.m, rest[0], inverse_at(listing.m, far))
+    let far = listing.distance(p, weight(b, places.locators[p]));
+    times(places.m, rest[0], inverse_at(places.m, far))
 }
 
 // Takes those of one symbol out of the power sums: y, y x, y x^2, ..
@@ -43,27 +44,18 @@ fn take_out(m: usize, rest: &mut [u8; 16], y: u8, x: u8)
 
 // Takes the errors out of the flagged places of a word with these power sums, and gives the power sums of what it leaves: they tell
 // whether that is a codeword, with no second pass over the word.
-pub fn correct(
-    m: usize,
-    n: usize,
-    b: usize,
-    locators: &[u8; 255],
-    flags: &[u8],
-    sums: [u8; 16],
-    word: &mut [u8],
-) -> [u8; 16]
-    requires n_bound { (n ≤ 255) × (n ≤ length flags.now) × (length word.old ≡ n) × (b ≤ 1) }
-    requires locators { Locators m n locators.now }
-    ensures { Corrected m n b flags.now sums word.old word.new result }
+pub fn correct(places: &Places, b: usize, flags: &[u8], sums: [u8; 16], word: &mut [u8]) -> [u8; 16]
+    requires { (places.now.n ≤ length flags.now) × (length word.old ≡ places.now.n) × (b ≤ 1) }
+    ensures { Corrected places.now.m places.now.n b flags.now sums word.old word.new result }
 {
-    let listing = Listing::of(m, n, locators, flags);
+    let listing = Listing::of(places, flags);
     let mut rest = sums;
-    for i in 0..n {
+    for i in 0..places.n {
         if flags[i] != 0 {
-            let x = locators[i];
+            let x = places.locators[i];
             let e = error_value(&listing, b, sums, i);
             word[i] ^= e;
-            take_out(m, &mut rest, times(m, e, weight(b, x)), x);
+            take_out(places.m, &mut rest, times(places.m, e, weight(b, x)), x);
         }
     }
     rest

@@ -9,18 +9,43 @@ ghost use Rattle.decoder.specs.Candidates.{flag_of, raised_at, Candidates};
 
 use field::shifts::{double, low, times};
 
-// The locator of every place of a word of n: the last place has 1, and each place before it the double of the one behind.
-pub fn locators(m: usize, n: usize) -> [u8; 255]
-    requires { n ≤ 255 }
-    ensures { Locators m n result }
-{
-    let mut table: [u8; 255] = [0; 255];
-    let mut x: u8 = 1;
-    for i in (0..n).rev() {
-        table[i] = x;
-        x = double(m, x);
+// The places of a word of n symbols in the field that m names, and the locator of each.
+#[derive(Drop)]
+pub struct Places {
+    pub m: usize,
+    pub n: usize,
+    pub locators: [u8; 255],
+    pub ghost short: { n ≤ 255 },
+    pub ghost located: { Locators m n locators },
+}
+
+impl Places {
+    // The last place has locator 1, and each place before it the double of the one behind.
+    pub fn of(m: usize, n: usize) -> Places
+        requires { n ≤ 255 }
+        ensures { (result.m ≡ m) × (result.n ≡ n) }
+    {
+        let mut locators: [u8; 255] = [0; 255];
+        let mut x: u8 = 1;
+        for i in (0..n).rev() {
+            locators[i] = x;
+            x = double(m, x);
+        }
+        Places { m, n, locators }
     }
-    table
+
+    // The places where an error can stand: a flag for each of the n places, and 0 from n on.
+    pub fn candidates(&self, marks: &[u8], v: &[u8; 16], d: usize) -> [u8; 255]
+        requires { (length marks.now ≡ self.now.n) × (d ≤ 9) }
+        ensures { Candidates self.now.m self.now.n marks.now v.now d result }
+    {
+        let ys = values(self.m, self.n, v, d, &self.locators);
+        let mut flags: [u8; 255] = [0; 255];
+        for i in 0..self.n {
+            flags[i] = candidate(self.m, marks[i], ys[i]);
+        }
+        flags
+    }
 }
 
 // One turn of Horner's rule at each of the first n points, in the field of 2^M elements. M is known before the run, so the loop is vector code.
@@ -73,24 +98,4 @@ fn candidate(m: usize, mark: u8, y: u8) -> u8
         return 1;
     }
     0
-}
-
-// The places where an error can stand: a flag for each of the n places, and 0 from n on.
-pub fn candidates(
-    m: usize,
-    n: usize,
-    marks: &[u8],
-    v: &[u8; 16],
-    d: usize,
-    locators: &[u8; 255],
-) -> [u8; 255]
-    requires { (n ≤ 255) × (length marks.now ≡ n) × (d ≤ 9) × Locators m n locators.now }
-    ensures { Candidates m n marks.now v.now d result }
-{
-    let ys = values(m, n, v, d, locators);
-    let mut flags: [u8; 255] = [0; 255];
-    for i in 0..n {
-        flags[i] = candidate(m, marks[i], ys[i]);
-    }
-    flags
 }

@@ -1,5 +1,4 @@
--- `decoder::correct::take_out` meets its contract. The loop's invariant (`Taking`): the first j sums are done, and the next term of the
--- course is at hand. The measure is what is left of 16.
+-- `decoder::correct::take_out` meets its contract. The loop's invariant (`Taking`): the first j sums are done, and the next term of the course is at hand.
 use Rattle.decoder.specs.Corrections.{Taking}
 use Rattle.decoder.proofs.correct.take_out.Given as goal
 

@@ -1,5 +1,5 @@
 -- `decoder::kernel::kernel` meets its contract: of t + 1 vectors at most t die, so one is alive after t windows, and it is orthogonal to all of them. The
--- invariant: each vector alive is orthogonal to the first j windows, and at most j have died. The measure is how many windows are left.
+-- invariant: each vector alive is orthogonal to the first j windows, and at most j have died.
 use native.Mathlib.Omega.{arith}
 use Rattle.decoder.specs.Elimination.{eliminated_none, kernel_vector}
 use Rattle.decoder.proofs.kernel.kernel.Goals as goal

@@ -1,5 +1,4 @@
--- `decoder::locate::raise` meets its contract. The loop's invariant: the points before `i` have had their turn. Either branch gives the product
--- of the field that m names, since a product depends on m by its width alone.
+-- `decoder::locate::raise_by` meets its contract. The loop's invariant: the points before `i` have had their turn.
 use Rattle.algebra.specs.Lists.{Filled}
 use Rattle.decoder.specs.Candidates.{raised_at}
 use Rattle.decoder.proofs.locate.raise_by.Given as goal

@@ -1,5 +1,4 @@
--- `decoder::peel::peel` meets its contract. The loop's invariant: the first j sums are those without the place (`Filled`). The measure is
--- what is left of 15.
+-- `decoder::peel::peel` meets its contract. The loop's invariant: the first j sums are those without the place (`Filled`).
 use native.Mathlib.Omega.{arith}
 use Rattle.decoder.specs.Peeling.{peel_more}
 use Rattle.decoder.proofs.peel.peel.Goals as goal

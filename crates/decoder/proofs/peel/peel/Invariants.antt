@@ -1,5 +1,4 @@
--- `decoder::peel::peel` meets its contract. The loop's invariant: the first j sums are those without the place (`Filled`). The measure is
--- what is left of 15.
+-- `decoder::peel::peel` meets its contract. The loop's invariant: the first j sums are those without the place (`Filled`).
 use Rattle.algebra.specs.Lists.{Filled}
 use Rattle.decoder.specs.Peeling.{without}
 use Rattle.decoder.proofs.peel.peel.Given as goal

@@ -1,5 +1,5 @@
--- `decoder::kernel::clear` meets its contract: a vector alive behind the pivot takes in so much of it that the two products with the window cancel. The
--- invariant: the vectors before s are orthogonal to the window too, and the pivot is as it was. The measure is how many are left.
+-- `decoder::kernel::Vectors::clear` meets its contract: a vector alive behind the pivot takes in so much of it that the two products with the window
+-- cancel. The invariant: the vectors before s are orthogonal to the window too, and the pivot is as it was.
 use Rattle.decoder.specs.Elimination.{Clearing}
 use Rattle.decoder.proofs.kernel.Vectors.clear.Given as goal
 

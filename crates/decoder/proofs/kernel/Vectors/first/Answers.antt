@@ -1,5 +1,5 @@
--- `decoder::kernel::first` meets its contract: it stops at the first vector alive, and does not pass them all, since one is alive. The invariant: every vector
--- passed is dead. The measure is how many are left.
+-- `decoder::kernel::Vectors::first` meets its contract: it stops at the first vector alive, or passes them all. The invariant: every vector passed is
+-- dead.
 use native.Mathlib.Omega.{arith}
 use Rattle.algebra.specs.Sets.{count_none}
 use Rattle.decoder.specs.Elimination.{living}

@@ -1,5 +1,5 @@
--- `decoder::kernel::pivot` meets its contract: it stops at the first vector alive whose product with the window does not count as zero. The invariant: every
--- vector alive that was passed is orthogonal to the window. The measure is how many are left.
+-- `decoder::kernel::Vectors::pivot` meets its contract: it stops at the first vector alive whose product with the window does not count as zero. The
+-- invariant: every vector alive that was passed is orthogonal to the window.
 use Rattle.decoder.specs.Elimination.{Passed}
 use Rattle.decoder.proofs.kernel.Vectors.pivot.Given as goal
 

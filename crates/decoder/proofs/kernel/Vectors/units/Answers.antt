@@ -1,5 +1,5 @@
--- `decoder::kernel::units` meets its contract: each turn sets one entry of the diagonal. The invariant: the first s rows have their 1, and nothing behind the
--- diagonal is set. The measure is how many rows are left.
+-- `decoder::kernel::Vectors::units` meets its contract: each turn sets one entry of the diagonal. The invariant: the first s rows have their 1, and
+-- nothing behind the diagonal is set.
 use mathlib.Core.Path.{refl}
 use Rattle.algebra.specs.Tests.{below}
 use Rattle.decoder.specs.Elimination.{units_none}

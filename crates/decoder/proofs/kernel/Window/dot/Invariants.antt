@@ -1,5 +1,5 @@
--- `decoder::kernel::dot` meets its contract: it adds up the row's products one by one. The invariant: what is summed, plus the rest of the products, is
--- the whole. The measure is how many are left.
+-- `decoder::kernel::Window::dot` meets its contract: it adds up the row's products one by one. The invariant: what is summed, plus the rest of the
+-- products, is the whole.
 use Rattle.decoder.specs.Rows.{Dotted}
 use Rattle.decoder.proofs.kernel.Window.dot.Given as goal
 

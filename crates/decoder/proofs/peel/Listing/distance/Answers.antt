@@ -1,5 +1,5 @@
--- `decoder::peel::distance` meets its contract. The loop's invariant (`Nearing`): what is multiplied, times the differences that are left, is
--- the distance. The measure is the number of places left.
+-- `decoder::peel::Listing::distance` meets its contract. The loop's invariant (`Nearing`): what is multiplied, times the differences that are left, is the
+-- distance.
 use Rattle.std.proofs.Common.{◌<◌, ◌∙◌, arith, length-take, get_or-take}
 use Rattle.decoder.specs.Peeling.{nearing_start}
 use Rattle.decoder.specs.Listing.{from, far_take, far_skip, far_end}
@@ -14,10 +14,11 @@ pub loop-place-preserved : goal.loop-place-preserved
 loop-place-preserved c =
     let o = c.loop-place in
     let a = c.args.self.now in
-    let l : o.place-index < a.count = omega (arith, length-take a.count a.places) in
-    let e = c.from-i.ensures ∙ get_or-take a.count a.places o.place-index 0 l in
+    let p = a.places.now in
+    let l : o.place-index < a.count = omega (arith, length-take a.count a.flagged) in
+    let e = c.from-i.ensures ∙ get_or-take a.count a.flagged o.place-index 0 l in
     elim c.if-i-p.branch [
-      | then-i-p w ↦ (λ flags h. rw w.far-is (far_take h l (o.invariant flags h) (rw e at w.if-i-p.true) (a.located.entry _ c.requires) (rw e (a.located.entry _ (a.inside o.place-index l))) w.times-far.ensures))
+      | then-i-p w ↦ (λ flags h. rw w.far-is (far_take h l (o.invariant flags h) (rw e at w.if-i-p.true) (p.located.entry _ c.requires) (rw e (p.located.entry _ (a.inside o.place-index l))) w.times-far.ensures))
       | else-i-p w ↦ (λ flags h. rw w.far-is (far_skip h l (o.invariant flags h) (rw e at w.if-i-p.false)))
     ]
 

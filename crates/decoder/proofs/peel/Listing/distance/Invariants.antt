@@ -1,5 +1,5 @@
--- `decoder::peel::distance` meets its contract. The loop's invariant (`Nearing`): what is multiplied, times the differences that are left, is
--- the distance. The measure is the number of places left.
+-- `decoder::peel::Listing::distance` meets its contract. The loop's invariant (`Nearing`): what is multiplied, times the differences that are left, is the
+-- distance.
 use mathlib.Core.List.{List}
 use Prim.Native.Nat.{ℕ}
 use Rattle.decoder.specs.Peeling.{Nearing}
@@ -9,4 +9,5 @@ use Rattle.decoder.proofs.peel.Listing.distance.Given as goal
 abbrev pub invariant-loop-place : goal.invariant-loop-place
 invariant-loop-place l =
     let a = l.self in
-    (flags : List ℕ) → Listed a.n flags a.count a.places → Nearing a.m a.n flags l.p l.start (from a.places l.place-index) l.far
+    let p = a.places.now in
+    (flags : List ℕ) → Listed p.n flags a.count a.flagged → Nearing p.m p.n flags l.p l.start (from a.flagged l.place-index) l.far

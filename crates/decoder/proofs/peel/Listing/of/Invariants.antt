@@ -1,5 +1,4 @@
--- `decoder::peel::list` meets its contract. The loop's invariant (`Listed`): the flagged places before i are listed. The measure is the number
--- of places left.
+-- `decoder::peel::Listing::of` meets its contract. The loop's invariant (`Listed`): the flagged places before i are listed.
 use mathlib.Core.Path.{◌≡◌}
 use Prim.Native.Nat.{◌≤◌}
 use lib.ListN.{length}
@@ -7,4 +6,4 @@ use Rattle.decoder.specs.Listing.{Listed}
 use Rattle.decoder.proofs.peel.Listing.of.Given as goal
 
 abbrev pub invariant-loop-i : goal.invariant-loop-i
-invariant-loop-i l = (l.count ≤ l.i) × (l.i ≤ l.n) × (length l.places ≡ 255) × Listed l.i l.flags l.count l.places
+invariant-loop-i l = (l.count ≤ l.i) × (length l.flagged ≡ 255) × Listed l.i l.flags l.count l.flagged

@@ -1,6 +1,5 @@
--- `decoder::peel::peel_listed` meets its contract: it peels the places in the order in which the theory does. The loop's invariant (`Peeling`):
--- to peel the places that are left, from a sequence that the sums agree with as far as they count, is to peel all. The measure is the
--- number of places left.
+-- `decoder::peel::Listing::peel` meets its contract: it peels the places in the order in which the theory does. The loop's invariant (`Peeling`): to peel
+-- the places that are left, from a sequence that the sums agree with as far as they count, is to peel all.
 use mathlib.Core.List.{List}
 use Prim.Native.Nat.{ℕ}
 use Rattle.decoder.specs.Peeling.{Peeling}
@@ -10,4 +9,5 @@ use Rattle.decoder.proofs.peel.Listing.peel.Given as goal
 abbrev pub invariant-loop-place : goal.invariant-loop-place
 invariant-loop-place l =
     let a = l.self in
-    (flags : List ℕ) → Listed a.n flags a.count a.places → Peeling a.m a.n flags l.skip l.initial.rest (from a.places l.place-index) l.rest
+    let p = a.places.now in
+    (flags : List ℕ) → Listed p.n flags a.count a.flagged → Peeling p.m p.n flags l.skip l.initial.rest (from a.flagged l.place-index) l.rest
