@@ -16,7 +16,7 @@ use Rattle.algebra.specs.Horner.{pow}
 use Rattle.algebra.specs.Polynomials.{ev, ev_ext}
 use Rattle.field.specs.Elements.{wide, prod}
 use Rattle.field.proofs.Elements.{K}
-use Rattle.decoder.specs.Places.{locator, Locators}
+use Rattle.decoder.specs.Places.{locator}
 use Rattle.checks.specs.Syndromes.{lane_after}
 
 -- a place is marked, or the polynomial's value y there is the field's zero
@@ -59,11 +59,6 @@ module _ (m mark y : ℕ) where
   flag_complete : Possible m mark y → 0 < flag_of m mark y
   unfolding flag_of
   flag_complete p = omega (arith, one_yes (either (dec_lt 0 mark) ((K m).dec y)) p)
-
--- the flag of place i, from the polynomial's values at all locators
-pub flag_at : (m n : ℕ) (marks v : List ℕ) (d : ℕ) (locators ys : List ℕ) (i flag : ℕ) → i < n → Locators m n locators
-    → Filled 255 (λ k. ev (K m) d (λ l. at v l) (at locators k)) n ys → flag ≡ flag_of m (at marks i) (at ys i) → flag ≡ flag_of m (at marks i) (value_at m n v d i)
-flag_at m n marks v d locators ys i flag h t p e = rw (← t.entry i h, ← p.first i h) e
 
 -- a list that is filled with the flags of all n places
 pub flags_all : (m n : ℕ) (marks v : List ℕ) (d s : ℕ) (flags : List ℕ)

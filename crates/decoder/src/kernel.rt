@@ -1,12 +1,12 @@
 // The error locator: a vector that is orthogonal to every window of the power sums, by elimination without division.
 // There are d vectors of d coefficients, and flags for those that are alive. Each window costs at most one vector its life, so with one vector
 // more than windows one is left.
-ghost use Rattle.std.specs.Prelude.{◌≡◌, ◌+◌, ◌*◌, ◌<◌, ◌≤◌, length, replicate, MatchOption};
+ghost use Rattle.std.specs.Prelude.{◌≡◌, ◌+◌, ◌*◌, ◌<◌, ◌≤◌, length, replicate, true, MatchOption};
 ghost use Rattle.algebra.specs.Sets.{count};
 ghost use Rattle.algebra.specs.Tests.{at};
 ghost use Rattle.algebra.specs.Lists.{Filled};
 ghost use Rattle.decoder.specs.Rows.{row, row_dot, Combined};
-ghost use Rattle.decoder.specs.Elimination.{living, Units, Eliminated, Pivot, Clearing, KernelVector};
+ghost use Rattle.decoder.specs.Elimination.{Alive, living, Units, Eliminated, Pivot, Clearing, KernelVector};
 
 use field::lanes::products;
 
@@ -64,14 +64,14 @@ impl<'a> Window<'a> {
 #[derive(Drop)]
 struct Vectors {
     rows: [u8; 88],
-    alive: [u8; 9],
+    alive: [bool; 9],
 }
 
 impl Vectors {
     // The unit vectors, 1 on the diagonal and 0 elsewhere, all alive.
     fn units() -> Vectors
         ensures rows { Units 9 result.rows }
-        ensures alive { result.alive ≡ replicate 9 1 }
+        ensures alive { result.alive ≡ replicate 9 true }
     {
         let mut rows = [0; 88];
         for s in 0..9 {
@@ -79,7 +79,7 @@ impl Vectors {
         }
         Vectors {
             rows,
-            alive: [1; 9],
+            alive: [true; 9],
         }
     }
 
@@ -91,7 +91,7 @@ impl Vectors {
             (λ p. (p < window.now.d) × Pivot window.now.m window.now.d window.now.sums.now window.now.j self.now.rows self.now.alive p) }
     {
         for s in 0..window.d {
-            if 0 < self.alive[s] {
+            if self.alive[s] {
                 let y = window.dot(&self.rows, s * 9);
                 if field::shifts::low(window.m, y) != 0 {
                     return Some(s);
@@ -119,7 +119,7 @@ impl Vectors {
     {
         let x = window.dot(&self.rows, p * 9);
         for s in p + 1..window.d {
-            if 0 < self.alive[s] {
+            if self.alive[s] {
                 let y = window.dot(&self.rows, s * 9);
                 window.combine(&mut self.rows, s * 9, p * 9, x, y);
             }
@@ -132,7 +132,7 @@ impl Vectors {
         ensures { Eliminated window.now.m window.now.d window.now.sums.now (window.now.j + 1) self.new.rows self.new.alive }
     {
         if let Some(p) = self.pivot(window) {
-            self.alive[p] = 0;
+            self.alive[p] = false;
             self.clear(window, p);
         }
     }
@@ -140,10 +140,10 @@ impl Vectors {
     // The first of d vectors that is alive, if there is one.
     fn first(&self, d: usize) -> Option<usize>
         requires { d ≤ 9 }
-        ensures { MatchOption result (count (living self.now.alive) d ≡ 0) (λ s. (s < d) × (0 < at self.now.alive s)) }
+        ensures { MatchOption result (count (living self.now.alive) d ≡ 0) (λ s. (s < d) × Alive self.now.alive s) }
     {
         for s in 0..d {
-            if 0 < self.alive[s] {
+            if self.alive[s] {
                 return Some(s);
             }
         }

@@ -3,7 +3,7 @@
 use Rattle.std.specs.Prelude.{◌≡◌, refl, Result, List, ℕ}
 use Rattle.std.proofs.Common.{ap₂}
 use Rattle.record.specs.declared.Record.{Record}
-use Rattle.link.specs.Replay.{replay_number, frames_of}
+use Rattle.link.specs.Replay.{replay_number, frames_heard}
 use Rattle.link.specs.Promises.{Replays, replays_once}
 use Rattle.link.specs.declared.replaying.ReplayError.{ReplayError}
 use Rattle.link.specs.declared.replaying.ReplayHeard.{ReplayHeard}
@@ -16,7 +16,7 @@ use Rattle.radio.specs.declared.replaying.ReplayedAnswer.{ReplayedAnswer}
 use Rattle.radio.specs.declared.replaying.ReplayAnswer.{ReplayAnswer}
 
 abbrev pub replayed_seen : Result ℕ ReplayError → ReplayedAnswer
-replayed_seen t = record { answer = replay_number t; frames = frames_of t }
+replayed_seen t = record { answer = replay_number t; frames = frames_heard t }
 
 -- record and answer after the frames, with the record that was lent
 abbrev pub both_replayed_seen : LentRecord → ReplayedAnswer → ReplayAnswer

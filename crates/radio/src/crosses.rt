@@ -17,7 +17,8 @@ pub struct CrossReceived {
     pub position: usize,
 }
 
-// The answer of a call at a position, as C sees it.
+// The answer of a call at a position, as C sees it. It stands beside `line_ready`, since the two errors have no type in common, and a trait for
+// their numbers would be longer than both.
 fn cross_ready(position: usize, answer: Result<usize, CrossError>) -> Ready
     ensures { result ≡ ready_seen position answer }
 {

@@ -6,7 +6,7 @@ ghost use Rattle.radio.specs.Masts.{two_frames, chosen_seen, both_masts_seen, Ma
 
 use crate::frames::{FrameAnswer, FrameSetting, frame_answer};
 use crate::records::{LentRecord, record_seen};
-use link::{Chosen, Mast, MastsError, hear_masts, receive_masts};
+use link::{Chosen, Mast, MastCopy, MastsError, hear_masts, receive_masts};
 use word::numbers::no_figures;
 
 // The mast that is used, and what both copies are answered, as a frame's answer.
@@ -81,17 +81,19 @@ pub extern "C" fn yaxo_masts_receive(
 ) -> ChosenAnswer
     ensures { MastsReceive framing (copy_of slots1.now marks1.now area1.old map1.old) (copy_of slots2.now marks2.now area2.old map2.old) result (left_of area1.new map1.new) (left_of area2.new map2.new) }
 {
-    let answer = receive_masts(
-        framing.into(),
-        slots1,
-        marks1,
-        area1,
-        map1,
-        slots2,
-        marks2,
-        area2,
-        map2,
-    );
+    let mut first = MastCopy {
+        slots: slots1,
+        marks: marks1,
+        area: &mut area1[..],
+        map: map1,
+    };
+    let mut second = MastCopy {
+        slots: slots2,
+        marks: marks2,
+        area: &mut area2[..],
+        map: map2,
+    };
+    let answer = receive_masts(framing.into(), &mut first, &mut second);
     chosen_answer(answer, area1, area2)
 }
 
@@ -111,18 +113,19 @@ pub extern "C" fn yaxo_masts_hear(
 ) -> MastsAnswer
     ensures { MastsHear before framing (copy_of slots1.now marks1.now area1.old map1.old) (copy_of slots2.now marks2.now area2.old map2.old) result (left_of area1.new map1.new) (left_of area2.new map2.new) }
 {
-    let heard = hear_masts(
-        before.into(),
-        framing.into(),
-        slots1,
-        marks1,
-        area1,
-        map1,
-        slots2,
-        marks2,
-        area2,
-        map2,
-    );
+    let mut first = MastCopy {
+        slots: slots1,
+        marks: marks1,
+        area: &mut area1[..],
+        map: map1,
+    };
+    let mut second = MastCopy {
+        slots: slots2,
+        marks: marks2,
+        area: &mut area2[..],
+        map: map2,
+    };
+    let heard = hear_masts(before.into(), framing.into(), &mut first, &mut second);
     let next = record_seen(before, heard.next);
     let answer = chosen_answer(heard.answer, area1, area2);
     MastsAnswer { next, answer }

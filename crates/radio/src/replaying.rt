@@ -4,7 +4,7 @@ ghost use Rattle.radio.specs.Replaying.{replayed_seen, both_replayed_seen, Repla
 
 use crate::frames::FrameSetting;
 use crate::records::{LentRecord, record_seen};
-use link::numbers::{frames_of, replay_number};
+use link::numbers::{frames_heard, replay_number};
 use link::{ReplayError, replay};
 
 // What a replay answers: the whole call's number, and how many frames were heard.
@@ -30,7 +30,7 @@ impl From<Result<usize, ReplayError>> for ReplayedAnswer {
     fn from(t: Result<usize, ReplayError>) -> ReplayedAnswer {
         ReplayedAnswer {
             answer: replay_number(t),
-            frames: frames_of(t),
+            frames: frames_heard(t),
         }
     }
 }

@@ -6,4 +6,4 @@ use Rattle.decoder.specs.Elimination.{living}
 use Rattle.decoder.proofs.kernel.Vectors.first.Goals as goal
 
 pub returns : goal.returns
-returns c = count_none (living c.args.self.now.alive) c.args.d λ i h a. omega (arith, c.loop-s.invariant i (omega arith))
+returns c = count_none (living c.args.self.now.alive) c.args.d λ i h. c.loop-s.invariant i (omega arith)

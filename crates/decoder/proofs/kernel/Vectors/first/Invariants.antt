@@ -1,9 +1,8 @@
 -- `decoder::kernel::first` meets its contract: it stops at the first vector alive, and does not pass them all, since one is alive. The invariant: every vector
 -- passed is dead. The measure is how many are left.
 use Prim.Native.Nat.{ℕ, ◌<◌}
-use mathlib.Core.Path.{◌≡◌}
-use Rattle.algebra.specs.Tests.{at}
+use Rattle.decoder.specs.Elimination.{Alive}
 use Rattle.decoder.proofs.kernel.Vectors.first.Given as goal
 
 abbrev pub invariant-loop-s : goal.invariant-loop-s
-invariant-loop-s l = (i : ℕ) → i < l.s → at l.self.alive i ≡ 0
+invariant-loop-s l = (i : ℕ) → i < l.s → ¬ Alive l.self.alive i
