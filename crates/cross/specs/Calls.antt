@@ -1,6 +1,6 @@
 -- Calls on a cross line from a fresh one, a frame each: what each frame is answered, and which bytes leave with it (document 01, Cross line).
 -- This speaks of the promises alone. Assumes nothing.
-use Rattle.std.specs.Prelude.{◌≡◌, refl, Bool, List, T, length, replicate}
+use Rattle.std.specs.Prelude.{◌≡◌, refl, Ok, Bool, List, T, length, replicate}
 use Rattle.std.proofs.Math.Path.{sym, ap}
 use Rattle.std.proofs.Common.{◌∙◌, arith, lit<}
 use Rattle.std.proofs.Math.Bool.{true, false}
@@ -10,14 +10,14 @@ use Rattle.algebra.specs.Tests.{at, below, below_same}
 use Rattle.algebra.specs.Refusal.{if_zero}
 use Rattle.algebra.specs.Lists.{tabulated}
 use Rattle.rings.specs.Run.{run_size, run_below}
-use Rattle.cross.specs.Cross.{outer_word, inner_word, turned, after, opened, passed_on, mark_of, marks_of, map_of, FrameOutcome, without_figures, closed, settled, received}
-use Rattle.cross.specs.Promises.{ready, two, three, five, FreshSender, FreshReceiver, Send, Receive}
-use Rattle.cross.specs.Checks.{size_done, SendFine, send_done, fresh_done, ReceiveFine, receive_done}
+use Rattle.interleave.specs.Numbers.{number_of}
+use Rattle.cross.specs.Numbers.{cross_number}
+use Rattle.cross.specs.Cross.{outer_word, inner_word, turned, after, opened, passed_on, mark_of, marks_of, map_of, FrameOutcome, without_figures, closed, settled, told, received}
+use Rattle.cross.specs.Promises.{Ready, FrameAnswer, position_then, position_received, two, three, five, FreshSender, FreshReceiver, Send, Receive}
+use Rattle.cross.specs.Checks.{size_done, SendFine, send_done, fresh_done, ReceiveFine, receive_done, settled_told}
 use Rattle.cross.specs.Codes.{settled_early, settled_late}
 use Rattle.cross.specs.Positions.{position_after, reachable, early_frame, late_frame}
 use Rattle.cross.specs.Frames.{memory_after, due_with, HeldBack, held_back}
-use Rattle.cross.specs.declared.position.Ready.{Ready}
-use Rattle.cross.specs.declared.position.Received.{Received}
 
 -- ---- the memories
 
@@ -44,14 +44,17 @@ memory_below back once d f h g (suc F) =
 pub record SenderCalls (many : ℕ) (messages words : ℕ → List ℕ) : Type 0 where
   pub lent : List ℕ
   pub lent_size : length lent ≡ 1512
-  -- what the call before frame F answered, the memory it left, and the lent word that frame F is written over
+  -- what the call before frame F answered, the position and memory after it, and the lent word that frame F is written over
   pub answers : ℕ → Ready
+  pub position : ℕ → ℕ
   pub memory : ℕ → List ℕ
   pub over : ℕ → List ℕ
   pub over_size : (F : ℕ) → F < many → length (over F) ≡ 32
   pub message_size_lem : (F : ℕ) → F < many → length (messages F) ≡ 24
   pub fresh : FreshSender lent (answers 0) (memory 0)
-  pub frame : (F : ℕ) → F < many → Send (answers F).position (memory F) (messages F) (over F) (answers (suc F)) (memory (suc F)) (words F)
+  pub first : position 0 ≡ position_then 0 (answers 0)
+  pub frame : (F : ℕ) → F < many → Send (position F) (memory F) (messages F) (over F) (answers (suc F)) (memory (suc F)) (words F)
+  pub next : (F : ℕ) → F < many → position (suc F) ≡ position_then (position F) (answers (suc F))
 
 -- the bytes that are due with frame F, of the outer words of these messages
 abbrev pub due_sent : (ℕ → List ℕ) → ℕ → List ℕ
@@ -67,16 +70,16 @@ module _ (many : ℕ) (messages words : ℕ → List ℕ) (s : SenderCalls many 
 
   -- position and memory before frame F
   record SenderAt (F : ℕ) : Type 0 where
-    position : (s.answers F).position ≡ position_after 0 F
+    position : s.position F ≡ position_after 0 F
     memory : s.memory F ≡ sent_memory F
 
   sender_fresh : SenderAt 0
   unfolding position_after
   sender_fresh =
       let (r, m) = two (rw (size_done _ s.lent_size) at s.fresh.outcome) in
-      record { position = ap (λ (z : Ready). z.position) r; memory = m ∙ sym (memory_fresh false 0 0 _) }
+      record { position = s.first ∙ ap (position_then 0) r; memory = m ∙ sym (memory_fresh false 0 0 _) }
 
-  send_fine : (F : ℕ) → F < many → SenderAt F → SendFine (s.answers F).position (length (s.memory F)) (length (messages F)) (length (s.over F))
+  send_fine : (F : ℕ) → F < many → SenderAt F → SendFine (s.position F) (length (s.memory F)) (length (messages F)) (length (s.over F))
   send_fine F h a = record {
     position = rw a.position (reachable 0 F);
     memory_size = ap length a.memory ∙ memory_size false 0 0 _ F;
@@ -86,7 +89,7 @@ module _ (many : ℕ) (messages words : ℕ → List ℕ) (s : SenderCalls many 
 
   -- what frame F answers and leaves
   sent : (F : ℕ) → F < many → SenderAt F
-      → (s.answers (suc F) ≡ ready 0 (after 0 (position_after 0 F))) × (s.memory (suc F) ≡ sent_memory (suc F)) × (words F ≡ inner_word (due_sent messages F) (s.over F))
+      → (s.answers (suc F) ≡ Ok (after 0 (position_after 0 F))) × (s.memory (suc F) ≡ sent_memory (suc F)) × (words F ≡ inner_word (due_sent messages F) (s.over F))
   unfolding memory_after
   sent F h a = three (rw (send_done _ _ _ _ (send_fine F h a), a.position, a.memory) at (s.frame F h).outcome)
 
@@ -95,18 +98,18 @@ module _ (many : ℕ) (messages words : ℕ → List ℕ) (s : SenderCalls many 
   sender_at zero h = sender_fresh
   sender_at (suc F) h =
       let (r, m, _) = sent F (omega arith) (sender_at F (omega arith)) in
-      record { position = ap (λ (z : Ready). z.position) r; memory = m }
+      record { position = s.next F (omega arith) ∙ ap (position_then (s.position F)) r; memory = m }
 
   -- Every frame is answered 0, and its inner word is that of the 28 bytes that are due.
-  pub sends : (F : ℕ) → F < many → ((s.answers (suc F)).answer ≡ 0) × (words F ≡ inner_word (due_sent messages F) (s.over F))
+  pub sends : (F : ℕ) → F < many → (number_of cross_number (s.answers (suc F)) ≡ 0) × (words F ≡ inner_word (due_sent messages F) (s.over F))
   sends F h =
       let (r, _, w) = sent F h (sender_at F (omega arith)) in
-      (ap (λ (z : Ready). z.answer) r, w)
+      (ap (number_of cross_number) r, w)
 
 -- ---- the receiver
 
 -- calls from a fresh receiver: frame F takes word F, any 32 bytes, and leaves the message bytes and a map with an answer
-pub record ReceiverCalls (many : ℕ) (words : ℕ → List ℕ) (answers : ℕ → Received) (messages : ℕ → List ℕ) : Type 0 where
+pub record ReceiverCalls (many : ℕ) (words : ℕ → List ℕ) (answers : ℕ → FrameAnswer) (messages : ℕ → List ℕ) : Type 0 where
   pub lent : List ℕ
   pub lent_size : length lent ≡ 1512
   pub lent_marks : List ℕ
@@ -123,9 +126,9 @@ pub record ReceiverCalls (many : ℕ) (words : ℕ → List ℕ) (answers : ℕ 
   pub maps : ℕ → List ℕ
   pub word_size : (F : ℕ) → F < many → length (words F) ≡ 32
   pub fresh : FreshReceiver lent lent_marks start (memory 0) (held 0)
-  pub first : position 0 ≡ start.position
+  pub first : position 0 ≡ position_then 0 start
   pub frame : (F : ℕ) → F < many → Receive (position F) (memory F) (held F) (words F) (given F) (lent_map F) (answers F) (memory (suc F)) (held (suc F)) (messages F) (maps F)
-  pub next : (F : ℕ) → F < many → position (suc F) ≡ (answers F).position
+  pub next : (F : ℕ) → F < many → position (suc F) ≡ position_received (position F) (answers F)
 
 -- the bytes of the outer word that is due with frame F, and their marks
 abbrev pub due_bytes : (ℕ → List ℕ) → ℕ → List ℕ
@@ -155,7 +158,7 @@ mark_small (suc k) = omega arith
 marks_of_small : (word : List ℕ) → (length (marks_of word) ≡ 28) × T (below 2 (marks_of word))
 marks_of_small word = (length-replicate 28 (mark_of word), below_same 2 28 (mark_of word) (mark_small (opened word).number))
 
-module _ (many : ℕ) (words : ℕ → List ℕ) (answers : ℕ → Received) (messages : ℕ → List ℕ) (r : ReceiverCalls many words answers messages) where
+module _ (many : ℕ) (words : ℕ → List ℕ) (answers : ℕ → FrameAnswer) (messages : ℕ → List ℕ) (r : ReceiverCalls many words answers messages) where
   abbrev held_bytes : ℕ → List ℕ
   held_bytes F = memory_after true 108 0 (λ G. passed_on (words G)) F
 
@@ -172,7 +175,7 @@ module _ (many : ℕ) (words : ℕ → List ℕ) (answers : ℕ → Received) (m
   receiver_fresh =
       let (a, m, ms) = three (rw (fresh_done _ _ r.lent_size r.marks_size) at r.fresh.outcome) in
       record {
-        position = r.first ∙ ap (λ (z : Ready). z.position) a;
+        position = r.first ∙ ap (position_then 0) a;
         memory = m ∙ sym (memory_fresh true 108 0 _);
         held = ms ∙ sym (memory_fresh true 108 1 _);
       }
@@ -193,14 +196,14 @@ module _ (many : ℕ) (words : ℕ → List ℕ) (answers : ℕ → Received) (m
   answered_at F = settled (position_after 108 F) (due_bytes words F) (due_marks words F) (r.given F)
 
   taken : (F : ℕ) → F < many → ReceiverAt F
-      → (answers F ≡ record { answer = (answered_at F).number; figures = (answered_at F).figures; position = after 108 (position_after 108 F) })
+      → (answers F ≡ Ok (record { position = after 108 (position_after 108 F); figures = told (answered_at F) }))
       × (r.memory (suc F) ≡ held_bytes (suc F)) × (r.held (suc F) ≡ held_marks (suc F)) × (messages F ≡ (answered_at F).message) × (r.maps F ≡ map_of (words F))
   unfolding memory_after
   taken F h a = five (rw (receive_done _ _ _ _ _ _ (receive_fine F h a), a.position, a.memory, a.held) at (r.frame F h).outcome)
 
   -- the same without the map, on which nothing after the frame rests
   taken_on : (F : ℕ) → F < many → ReceiverAt F
-      → (answers F ≡ record { answer = (answered_at F).number; figures = (answered_at F).figures; position = after 108 (position_after 108 F) })
+      → (answers F ≡ Ok (record { position = after 108 (position_after 108 F); figures = told (answered_at F) }))
       × (r.memory (suc F) ≡ held_bytes (suc F)) × (r.held (suc F) ≡ held_marks (suc F)) × (messages F ≡ (answered_at F).message)
   unfolding memory_after
   taken_on F h a =
@@ -212,12 +215,12 @@ module _ (many : ℕ) (words : ℕ → List ℕ) (answers : ℕ → Received) (m
   receiver_at zero h = receiver_fresh
   receiver_at (suc F) h =
       let (a, m, ms, _) = taken_on F (omega arith) (receiver_at F (omega arith)) in
-      record { position = r.next F (omega arith) ∙ ap (λ (z : Received). z.position) a; memory = m; held = ms }
+      record { position = r.next F (omega arith) ∙ ap (position_received (r.position F)) a; memory = m; held = ms }
 
   answered : (F : ℕ) → F < many → received (answers F) (messages F) ≡ answered_at F
   answered F h =
       let (a, _, _, w) = taken_on F h (receiver_at F (omega arith)) in
-      rw (a, w)
+      rw (a, w) (settled_told _ _ _ _)
 
   -- The first 108 frames are answered 7, whatever their words are, and leave the message bytes.
   pub not_yet : (F : ℕ) → F < many → F < 108 → received (answers F) (messages F) ≡ without_figures 7 (r.given F)

@@ -1,7 +1,7 @@
 -- The two codes of a cross line: they are allowed settings, bytes of the right number are encoded by them, and what becomes of an inner and of an
 -- outer word at the receiver (document 01, Cross line).
 -- Assumes nothing.
-use Rattle.std.specs.Prelude.{◌≡◌, List, ℕ, zero, suc, ◌≤◌, ◌<◌, T, length, take, replicate}
+use Rattle.std.specs.Prelude.{◌≡◌, Result, Err, List, ℕ, zero, suc, ◌≤◌, ◌<◌, T, length, take, replicate}
 use Rattle.std.proofs.Math.Path.{refl, sym, ap}
 use Rattle.std.proofs.Common.{◌∙◌, arith, lit<, length-take-le}
 use Rattle.std.proofs.Math.Option.{Option, some, none}
@@ -16,7 +16,9 @@ use Rattle.word.specs.Answers.{number_of, DecodeOutcome, decode_outcome, refused
 use Rattle.word.specs.Promises.{DecodesPart}
 use Rattle.word.specs.Refusals.{part_passes}
 use Rattle.word.specs.Met.{encoding_word}
-use Rattle.word.specs.declared.Decoded.{Decoded}
+use Rattle.word.specs.declared.Figures.{Figures}
+use Rattle.word.specs.declared.DecodeError.{DecodeError}
+use Rattle.word.specs.declared.DecodeError.TheVariants.{BadSetting, BadLength, BadSymbol, BeyondReach}
 use Rattle.cross.specs.Cross.{outer_code, inner_code, outer_word, inner_word, opened, mark_of, passed_on, map_of, without_figures, or_zeros, closed, settled}
 
 pub outer_allowed : T (allowed outer_code)
@@ -50,7 +52,7 @@ module _ (word : List ℕ) (n : length word ≡ 32) where
     any_map map l = rw (← inner_passes map l, ← inner_passes (replicate 32 0) (length-replicate {A = ℕ} 32 0)) refl
 
     -- an inner word gives on what the decoder leaves, with mark 0, or 1 where it is refused; its map is that of the frame
-    pub inner_given : (map : List ℕ) → length map ≡ 32 → (d : Decoded) (part left : List ℕ) → DecodesPart inner_code word (replicate 32 0) (take 28 word) map d part left
+    pub inner_given : (map : List ℕ) → length map ≡ 32 → (d : Result Figures DecodeError) (part left : List ℕ) → DecodesPart inner_code word (replicate 32 0) (take 28 word) map d part left
         → (if_zero (number_of d) 0 1 ≡ mark_of word) × (part ≡ passed_on word) × (left ≡ map_of word)
     inner_given map l d part left p =
         let e = p.outcome ∙ any_map map l in
@@ -70,9 +72,16 @@ module _ (word : List ℕ) (n : length word ≡ 32) where
   unfolding opened decoding_part answering
   map_of_refused = zeros_where_refused (part_refusal inner_code word (replicate 32 0) (take 28 word) (replicate 32 0)) (corrected inner_code (replicate 32 0) word)
 
+-- a refused outer word is 4 and zeros
+pub outer_refused : (e : DecodeError) (part map : List ℕ) → without_figures 4 (replicate 24 0) ≡ or_zeros (decode_outcome (Err e) part map)
+outer_refused BadSetting part map = refl
+outer_refused BadLength part map = refl
+outer_refused BadSymbol part map = refl
+outer_refused BeyondReach part map = refl
+
 module _ (bytes marks message : List ℕ) where
   -- an outer word is its message and figures, or 4 and zeros
-  pub outer_given : (d : Decoded) (part map : List ℕ) → DecodesPart outer_code bytes marks message (replicate 28 0) d part map → or_zeros (decode_outcome d part map) ≡ closed bytes marks message
+  pub outer_given : (d : Result Figures DecodeError) (part map : List ℕ) → DecodesPart outer_code bytes marks message (replicate 28 0) d part map → or_zeros (decode_outcome d part map) ≡ closed bytes marks message
   unfolding closed
   outer_given d part map p = ap or_zeros p.outcome
 

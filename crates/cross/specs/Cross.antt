@@ -1,6 +1,6 @@
 -- The cross line (document 01, Cross line): its two codes, its delays, its positions, and what becomes of a frame, both ways.
 -- Assumes nothing.
-use Rattle.std.specs.Prelude.{Bool, List, ℕ, ◌+◌, ◌*◌, ◌%◌, length, replicate, take}
+use Rattle.std.specs.Prelude.{Bool, Result, Ok, Err, List, ℕ, ◌+◌, ◌*◌, ◌%◌, length, replicate, take, eqb, if◌then◌else◌}
 use Rattle.std.proofs.Math.Decide.{ℕ_discrete, dec_lt}
 use Rattle.algebra.specs.Sets.{put}
 use Rattle.algebra.specs.Tests.{at, below}
@@ -11,6 +11,10 @@ use Rattle.rings.specs.Run.{Ran, run}
 use Rattle.word.specs.Answers.{DecodeOutcome, no_figures, encoding, decoding_part}
 use Rattle.word.specs.declared.Setting.{Setting}
 use Rattle.word.specs.declared.Figures.{Figures}
+use Rattle.cross.specs.Numbers.{cross_number, taken_number, taken_figures}
+use Rattle.cross.specs.declared.position.CrossError.{CrossError}
+use Rattle.cross.specs.declared.position.NoMessage.{NoMessage}
+use Rattle.cross.specs.declared.position.NoMessage.TheVariants.{NotYet, BeyondReach}
 use Rattle.cross.specs.declared.position.Received.{Received}
 
 -- ---- the two codes: symbols are bytes, r = 4, b = 0
@@ -94,9 +98,18 @@ closed bytes marks message = or_zeros (decoding_part outer_code bytes marks mess
 unfoldable pub settled : ℕ → List ℕ → List ℕ → List ℕ → FrameOutcome
 settled p bytes marks message = put (dec_lt p 108) (without_figures 7 message) (closed bytes marks message)
 
+-- the figures of a frame that was taken, or why it gives no message, by the number that it is answered
+abbrev pub told : FrameOutcome → Result Figures NoMessage
+told o = if_zero o.number (Ok o.figures) (Err (if eqb o.number 7 then NotYet else BeyondReach))
+
+-- and in this paper's terms, with the message bytes that it leaves
+abbrev pub frame_outcome : Result Figures NoMessage → List ℕ → FrameOutcome
+frame_outcome r message = record { number = taken_number r; figures = taken_figures r; message = message }
+
 -- an answer of the code in this paper's terms, with the message bytes it leaves
-abbrev pub received : Received → List ℕ → FrameOutcome
-received r message = record { number = r.answer; figures = r.figures; message = message }
+abbrev pub received : Result Received CrossError → List ℕ → FrameOutcome
+received (Ok r) message = frame_outcome r.figures message
+received (Err e) message = without_figures (cross_number e) message
 
 -- ---- the refusals, in the paper's order: the position 1, each length 2, a mark above 1 in the memory of marks 3
 

@@ -1,3 +1,4 @@
+pub mod Numbers
 pub mod Cross
 pub mod Promises
 pub mod Checks

@@ -1,13 +1,12 @@
 // The two codes of a cross line: their settings, and what its receiver makes of an inner and of an outer word.
-ghost use Rattle.std.specs.Prelude.{◌≡◌, ◌+◌, ◌<◌, length, replicate};
+ghost use Rattle.std.specs.Prelude.{◌≡◌, length};
 ghost use Rattle.algebra.specs.Refusal.{if_zero};
 ghost use Rattle.word.specs.Answers.{number_of};
-ghost use Rattle.cross.specs.Cross.{outer_code, inner_code, cycle, after, passed_on, mark_of, map_of, received, settled};
+ghost use Rattle.cross.specs.Cross.{outer_code, inner_code, passed_on, mark_of, map_of, frame_outcome, settled};
 
-use crate::position::{Received, next};
-use buffers::{copy, fill};
-use word::numbers::{figures_of, no_figures, number_of};
-use word::{Decoded, Setting, decode_part};
+use crate::position::NoMessage;
+use buffers::{copy, filled};
+use word::{DecodeError, Figures, Setting, decode_part};
 
 // 24 bytes and 4 check bytes.
 pub fn outer_code() -> Setting
@@ -33,30 +32,13 @@ pub fn inner_code() -> Setting
     }
 }
 
-// The 28 bytes of an outer word, all of one value. A call of its own keeps the array out of its callers' proofs.
-pub fn frame_of(value: u8) -> [u8; 28]
-    ensures { result ≡ replicate 28 value }
-{
-    [value; 28]
-}
-
-// Marks for an inner word: none of its bytes is known to be wrong.
-fn no_marks() -> [u8; 32]
-    ensures { result ≡ replicate 32 0 }
-{
-    [0; 32]
-}
-
 // The mark of the bytes that a word passes on: 1 where it is refused.
-fn mark_of(d: Decoded) -> u8
-    ensures { result ≡ if_zero (number_of d) 0 1 }
+fn mark_of(answer: Result<Figures, DecodeError>) -> u8
+    ensures { result ≡ if_zero (number_of answer) 0 1 }
 {
-    match d {
-        Decoded::Done(_) => 0,
-        Decoded::BadSetting => 1,
-        Decoded::BadLength => 1,
-        Decoded::BadSymbol => 1,
-        Decoded::BeyondReach => 1,
+    match answer {
+        Ok(_) => 0,
+        Err(_) => 1,
     }
 }
 
@@ -68,39 +50,32 @@ pub fn open_inner(word: &[u8], bytes: &mut [u8], map: &mut [u8]) -> u8
     ensures { (result ≡ mark_of word.now) × (bytes.new ≡ passed_on word.now) × (map.new ≡ map_of word.now) }
 {
     copy(&word[0..28], bytes);
-    let marks = no_marks();
+    let marks: [u8; 32] = filled(0);
     mark_of(decode_part(inner_code(), word, &marks, bytes, map))
 }
 
-// What becomes of the outer word that is due at a position: 7 for the first 108 frames, and the message bytes stay as they were; 4 and zeros
-// where the word is refused; else its message and figures. The frame is taken all the same, so the position goes on.
+// What becomes of the outer word that is due at a position: nothing for the first 108 frames, and the message bytes stay as they were; zeros
+// where the word is refused; else its message and figures. The frame is taken all the same.
 // The outer word's own map goes no further: its bytes came with 28 frames, and no place of it is a place of this frame.
-pub fn settle(position: usize, bytes: &[u8], marks: &[u8], message: &mut [u8]) -> Received
-    requires { (position < 108 + cycle) × (length message.old ≡ 24) }
-    ensures { (received result message.new ≡ settled position bytes.now marks.now message.old) × (result.position ≡ after 108 position) }
+#[tactic(auto, using(crate::specs::Codes::settled_early))]
+pub fn settle(
+    position: usize,
+    bytes: &[u8],
+    marks: &[u8],
+    message: &mut [u8],
+) -> Result<Figures, NoMessage>
+    requires { length message.old ≡ 24 }
+    ensures { frame_outcome result message.new ≡ settled position bytes.now marks.now message.old }
 {
-    let later = next(position, 108);
     if position < 108 {
-        return Received {
-            answer: 7,
-            figures: no_figures(),
-            position: later,
-        };
+        return Err(NoMessage::NotYet);
     }
-    let mut places = frame_of(0);
-    let d = decode_part(outer_code(), bytes, marks, message, &mut places);
-    let answer = number_of(d);
-    if answer != 0 {
-        fill(message, 0);
-        return Received {
-            answer: 4,
-            figures: no_figures(),
-            position: later,
-        };
-    }
-    Received {
-        answer,
-        figures: figures_of(d),
-        position: later,
+    let mut places: [u8; 28] = filled(0);
+    match decode_part(outer_code(), bytes, marks, message, &mut places) {
+        Ok(figures) => Ok(figures),
+        Err(_) => {
+            message.fill(0);
+            Err(NoMessage::BeyondReach)
+        }
     }
 }

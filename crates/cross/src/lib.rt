@@ -9,6 +9,6 @@ mod receiver;
 mod sender;
 
 // A fresh line, a frame.
-pub use position::{Ready, Received};
+pub use position::{CrossError, NoMessage, Received};
 pub use receiver::{fresh_receiver, receive};
 pub use sender::{fresh_sender, send};

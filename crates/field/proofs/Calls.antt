@@ -2,27 +2,21 @@
 -- Assumes nothing.
 use mathlib.Core.Path.{◌≡◌, sym, ap, ◌∙◌}
 use mathlib.Core.Logic.{◌≢◌}
-use mathlib.Core.Bool.{Bool, true, false, not}
+use mathlib.Core.Bool.{Bool, true}
 use Prim.Native.Nat.{ℕ, ◌%◌, ◌^◌, ◌<◌}
 use native.Mathlib.Nat.{mod-eq_of_lt}
 use native.Mathlib.Omega.{arith}
-use borrow.Author.Tests.{not-true, not-false, ltb-true}
+use borrow.Author.Tests.{ltb-true}
 use Rattle.field.specs.Field.{mul, a^}
 use Rattle.field.specs.Elements.{wide, prod}
 use Rattle.field.specs.Answers.{done, is_field, is_element, product_of, power_of, inverse_of}
 use Rattle.field.specs.Once.{wide_field}
 use Rattle.field.proofs.Once.{inverse_is}
 
--- a test that the code asks by `!`
-pub failed : {b t : Bool} → b ≡ t → not b ≡ true → t ≡ false
-failed {b} e h = sym e ∙ not-true b h
-
-pub held : {b t : Bool} → b ≡ t → not b ≡ false → t ≡ true
-held {b} e h = sym e ∙ not-false b h
-
 module _ (m : ℕ) (field : is_field m ≡ true) where
-  pub element : (x : ℕ) → is_element (wide m) x ≡ is_element m x
-  element x = rw (wide_field m field)
+  -- what the call's test has said of x
+  pub element : (x : ℕ) (t u : Bool) → t ≡ is_element (wide m) x → t ≡ u → is_element m x ≡ u
+  element x t u e f = rw (wide_field m field) at (sym e ∙ f)
 
   below : (x : ℕ) → is_element m x ≡ true → x < 2 ^ m
   unfolding is_element

@@ -1,28 +1,27 @@
 -- Document 01, "Field" and "Numbers a call can answer": what the field's calls answer. The number is 1 where m is no field's and 3 where a
 -- symbol will not do.
 -- Assumes nothing.
-use Rattle.std.specs.Prelude.{Bool, ◌&&◌, ◌||◌, not, ℕ, ◌^◌, ltb, eqb, if◌then◌else◌}
+use Rattle.std.specs.Prelude.{Bool, ◌&&◌, ◌||◌, not, ℕ, ◌^◌, ltb, eqb, if◌then◌else◌, Result, Ok, Err}
 use Rattle.algebra.specs.Tests.{first_below}
 use Rattle.field.specs.Field.{mul, a^}
-use Rattle.field.specs.declared.Element.{Element}
-use Rattle.field.specs.declared.Element.TheVariants.{Is, BadField, BadSymbol}
+use Rattle.field.specs.declared.FieldError.{FieldError}
+use Rattle.field.specs.declared.FieldError.TheVariants.{BadField, BadSymbol}
 
 -- this paper's number of an answer, and the element; 0 under a refusal
-abbrev pub number_of : Element → ℕ
-number_of (Is x) = 0
-number_of BadField = 1
-number_of BadSymbol = 3
+abbrev pub number_of : Result ℕ FieldError → ℕ
+number_of (Ok x) = 0
+number_of (Err BadField) = 1
+number_of (Err BadSymbol) = 3
 
-abbrev pub value_of : Element → ℕ
-value_of (Is x) = x
-value_of BadField = 0
-value_of BadSymbol = 0
+abbrev pub value_of : Result ℕ FieldError → ℕ
+value_of (Ok x) = x
+value_of (Err e) = 0
 
 pub record ElementOutcome : Type 0 where
   pub number : ℕ
   pub value : ℕ
 
-abbrev pub element_outcome : Element → ElementOutcome
+abbrev pub element_outcome : Result ℕ FieldError → ElementOutcome
 element_outcome e = record { number = number_of e; value = value_of e }
 
 abbrev pub refused : ℕ → ElementOutcome

@@ -24,12 +24,15 @@ scaled_right m f x r p i l = rw (← get_or-replicate {A = ℕ} 16 i f 0 l) (p.e
 unfoldable pub product_at : ℕ → List ℕ → List ℕ → ℕ → ℕ
 product_at m x y i = prod m (at x i) (at y i)
 
--- a turn, with a product whose m is a number k of the same width
-pub products_more : (m k : ℕ) (x y : List ℕ) (i : ℕ) (products : List ℕ) (p : ℕ) → wide m ≡ wide k → i < 16 → p ≡ prod k (at x i) (at y i)
+pub products_more : (m : ℕ) (x y : List ℕ) (i : ℕ) (products : List ℕ) (p : ℕ) → i < 16 → p ≡ prod m (at x i) (at y i)
     → Filled 16 (product_at m x y) i products → Filled 16 (product_at m x y) (i + 1) (set products i p)
 unfolding product_at
-products_more m k x y i products p w l e = filled_more 16 _ i products p l (rw w e)
+products_more m x y i products p l e = filled_more 16 _ i products p l e
 
 pub products_all : (m : ℕ) (x y : List ℕ) (i : ℕ) (products : List ℕ) → 16 ≤ i → Filled 16 (product_at m x y) i products → Products m x y products
 unfolding product_at
 products_all m x y i products h f = record { size = f.size; each = λ k l. f.first k (omega arith) }
+
+-- those of another number that names the same field
+pub products_wide : (m k : ℕ) (x y r : List ℕ) → wide m ≡ wide k → Products k x y r → Products m x y r
+products_wide m k x y r w p = record { size = p.size; each = λ i l. rw w (p.each i l) }

@@ -1,6 +1,6 @@
 -- What the promises of the calls settle: none has a second answer, and the inverse is the one number that it can be.
 -- Assumes nothing.
-use Rattle.std.specs.Prelude.{◌≡◌, refl, true, ℕ, ◌^◌, ◌<◌, if◌then◌else◌}
+use Rattle.std.specs.Prelude.{◌≡◌, refl, true, ℕ, ◌^◌, ◌<◌, if◌then◌else◌, Result, Ok, Err}
 use Rattle.std.proofs.Common.{sym, ap, ◌∙◌}
 use Rattle.std.proofs.Math.Decide.{ℕ_discrete}
 use borrow.Author.Tests.{eqb-true, ne_eqb}
@@ -9,8 +9,8 @@ use Rattle.algebra.specs.Xor.{◌⊕◌}
 use Rattle.field.specs.Field.{mul}
 use Rattle.field.specs.Elements.{wide, wide_3, wide_8}
 use Rattle.field.specs.Answers.{ElementOutcome, element_outcome, done, is_field, product_of, power_of, inverse_of}
-use Rattle.field.specs.declared.Element.{Element}
-use Rattle.field.specs.declared.Element.TheVariants.{Is, BadField, BadSymbol}
+use Rattle.field.specs.declared.FieldError.{FieldError}
+use Rattle.field.specs.declared.FieldError.TheVariants.{BadField, BadSymbol}
 
 -- ---- two answers that meet one promise are equal
 
@@ -18,25 +18,25 @@ pub sum_once : (x y r s : ℕ) → r ≡ x ⊕ y → s ≡ x ⊕ y → r ≡ s
 sum_once x y r s p q = cc
 
 -- an answer is known by its number and its value
-answer : ElementOutcome → Element
-answer o = if eqb o.number 0 then Is o.value else if eqb o.number 1 then BadField else BadSymbol
+answer : ElementOutcome → Result ℕ FieldError
+answer o = if eqb o.number 0 then Ok o.value else if eqb o.number 1 then Err BadField else Err BadSymbol
 
-answered : (r : Element) → answer (element_outcome r) ≡ r
+answered : (r : Result ℕ FieldError) → answer (element_outcome r) ≡ r
 unfolding answer
-answered (Is x) = refl
-answered BadField = refl
-answered BadSymbol = refl
+answered (Ok x) = refl
+answered (Err BadField) = refl
+answered (Err BadSymbol) = refl
 
-outcome_once : (r s : Element) → element_outcome r ≡ element_outcome s → r ≡ s
+outcome_once : (r s : Result ℕ FieldError) → element_outcome r ≡ element_outcome s → r ≡ s
 outcome_once r s e = sym (answered r) ∙ ap answer e ∙ answered s
 
-pub product_once : (m x y : ℕ) (r s : Element) → element_outcome r ≡ product_of m x y → element_outcome s ≡ product_of m x y → r ≡ s
+pub product_once : (m x y : ℕ) (r s : Result ℕ FieldError) → element_outcome r ≡ product_of m x y → element_outcome s ≡ product_of m x y → r ≡ s
 product_once m x y r s p q = outcome_once r s (p ∙ sym q)
 
-pub power_once : (m i : ℕ) (r s : Element) → element_outcome r ≡ power_of m i → element_outcome s ≡ power_of m i → r ≡ s
+pub power_once : (m i : ℕ) (r s : Result ℕ FieldError) → element_outcome r ≡ power_of m i → element_outcome s ≡ power_of m i → r ≡ s
 power_once m i r s p q = outcome_once r s (p ∙ sym q)
 
-pub inverse_once : (m x : ℕ) (r s : Element) → element_outcome r ≡ inverse_of m x → element_outcome s ≡ inverse_of m x → r ≡ s
+pub inverse_once : (m x : ℕ) (r s : Result ℕ FieldError) → element_outcome r ≡ inverse_of m x → element_outcome s ≡ inverse_of m x → r ≡ s
 inverse_once m x r s p q = outcome_once r s (p ∙ sym q)
 
 -- ---- the inverse

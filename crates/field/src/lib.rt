@@ -11,10 +11,9 @@ ghost use Rattle.field.specs.Answers.{is_field, is_element, element_outcome, pro
 ghost use Rattle.field.specs.Elements.{wide};
 ghost use Rattle.algebra.specs.Xor.{◌⊕◌};
 
-// What a call answers: an element, or why there is none. Its numbers are document 01's 0, 1 and 3.
-#[derive(Clone, Copy)]
-pub enum Element {
-    Is(u8),
+// Why a call has no element to give. Document 01's numbers of the two are 1 and 3.
+#[derive(Clone, Copy, Debug, PartialEq, Eq)]
+pub enum FieldError {
     BadField,
     BadSymbol,
 }
@@ -23,20 +22,14 @@ pub enum Element {
 pub fn is_field(m: usize) -> bool
     ensures { result ≡ is_field m }
 {
-    if m == 3 {
-        return true;
-    }
-    m == 8
+    m == 3 || m == 8
 }
 
 // x is an element of the field that m names.
 fn is_element(m: usize, x: u8) -> bool
     ensures { result ≡ is_element (wide m) x }
 {
-    if m == 3 {
-        return x < 8;
-    }
-    true
+    m != 3 || x < 8
 }
 
 // The sum of two polynomials, and so of two elements: exclusive or.
@@ -47,43 +40,43 @@ pub fn sum(x: u8, y: u8) -> u8
 }
 
 // The product of two elements. Refused 1 where m is not 3 or 8, and 3 where a factor is not below 2^m.
-pub fn product(m: usize, x: u8, y: u8) -> Element
+pub fn product(m: usize, x: u8, y: u8) -> Result<u8, FieldError>
     ensures { element_outcome result ≡ product_of m x y }
 {
     if !is_field(m) {
-        return Element::BadField;
+        return Err(FieldError::BadField);
     }
     if !is_element(m, x) {
-        return Element::BadSymbol;
+        return Err(FieldError::BadSymbol);
     }
     if !is_element(m, y) {
-        return Element::BadSymbol;
+        return Err(FieldError::BadSymbol);
     }
-    Element::Is(shifts::times(m, x, y))
+    Ok(shifts::times(m, x, y))
 }
 
 // The i-th power of a, which is 2. Refused 1 where m is not 3 or 8.
-pub fn power(m: usize, i: usize) -> Element
+pub fn power(m: usize, i: usize) -> Result<u8, FieldError>
     ensures { element_outcome result ≡ power_of m i }
 {
     if !is_field(m) {
-        return Element::BadField;
+        return Err(FieldError::BadField);
     }
-    Element::Is(tables::power_at(m, i))
+    Ok(tables::power_at(m, i))
 }
 
 // The element whose product with x is 1. Refused 1 where m is not 3 or 8, and 3 where x is 0 or not below 2^m.
-pub fn inverse(m: usize, x: u8) -> Element
+pub fn inverse(m: usize, x: u8) -> Result<u8, FieldError>
     ensures { element_outcome result ≡ inverse_of m x }
 {
     if !is_field(m) {
-        return Element::BadField;
+        return Err(FieldError::BadField);
     }
     if !is_element(m, x) {
-        return Element::BadSymbol;
+        return Err(FieldError::BadSymbol);
     }
     if x == 0 {
-        return Element::BadSymbol;
+        return Err(FieldError::BadSymbol);
     }
-    Element::Is(shifts::inverse_at(m, x))
+    Ok(shifts::inverse_at(m, x))
 }

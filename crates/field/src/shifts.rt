@@ -25,31 +25,30 @@ pub fn double(m: usize, x: u8) -> u8
     x % 128 * 2 ^ x / 128 * 29
 }
 
-// The product: for each term of x, y moved up by the term's place is added.
-fn by_terms(m: usize, x: u8, y: u8) -> u8
-    ensures { result ≡ prod m x y }
+// The product: for each term of x, y moved up by the term's place is added. The field stands in the type, so that each of the two makes a
+// straight body of its own.
+fn by_terms<const M: usize>(x: u8, y: u8) -> u8
+    ensures { result ≡ prod M x y }
 {
-    let mut left: u8 = 8;
-    let mut a = low(m, x);
-    let mut b = low(m, y);
+    let mut a = low(M, x);
+    let mut b = low(M, y);
     let mut sum: u8 = 0;
-    while 0 < left {
+    for term in 0..8u8 {
         sum = sum ^ a % 2 * b;
         a = a / 2;
-        b = double(m, b);
-        left = left - 1;
+        b = double(M, b);
     }
     sum
 }
 
-// The product in the field that m names. The two calls differ only in a constant, from which the compiler makes two straight bodies.
+// The product in the field that m names.
 pub fn times(m: usize, x: u8, y: u8) -> u8
     ensures { result ≡ prod m x y }
 {
     if m == 3 {
-        return by_terms(3, x, y);
+        return by_terms::<3>(x, y);
     }
-    by_terms(8, x, y)
+    by_terms::<8>(x, y)
 }
 
 // The sixteenth power of x at m = 8: that of a sum is the sum of those of its terms, which are a^0, a^16, .., a^112.

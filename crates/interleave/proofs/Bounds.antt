@@ -1,6 +1,6 @@
 -- The products that the code forms are small, and come to the sizes of the specification.
 -- Assumes nothing.
-use Prim.Native.Nat.{ℕ, ◌-◌, ◌*◌, ◌≤◌}
+use Prim.Native.Nat.{ℕ, ◌*◌, ◌≤◌}
 use native.Mathlib.Nat.{mul-le-mul_right}
 use native.Mathlib.Omega.{arith}
 use Rattle.interleave.specs.Line.{common, common_most}
@@ -10,9 +10,3 @@ pub period_bound : (I M : ℕ) → I ≤ 16 → M ≤ 128 → (common I * M ≤ 
 period_bound I M h k =
     let a : common I * M ≤ 46126080 = omega (arith, mul-le-mul_right M (common_most I (omega arith))) in
     (a, omega (arith, mul-le-mul_right I a))
-
--- the size of a memory, and the product on the way to it
-pub size_bound : (I M : ℕ) → I ≤ 16 → M ≤ 128 → (M * I ≤ 2048) × (M * I * (I - 1) ≤ 32768)
-size_bound I M h k =
-    let a : M * I ≤ 2048 = omega (arith, mul-le-mul_right I k) in
-    (a, omega (arith, mul-le-mul_right (I - 1) a))

@@ -13,9 +13,6 @@ use Rattle.algebra.specs.Lists.{tabulated}
 use Rattle.interleave.specs.Block.{transposed, low, high, in_block}
 use Rattle.interleave.specs.Rows.{RowsMoved}
 
-pub rows_none : (m n : ℕ) (s t : List ℕ) → length t ≡ n * m → RowsMoved m n 0 s t
-rows_none m n s t e = record { size = e; bytes = λ i v h k. absurd (not-suc-le-zero k) }
-
 pub rows_all : (m n w : ℕ) (s t : List ℕ) → 0 < m → m ≤ w → RowsMoved m n w s t → t ≡ transposed m n s
 unfolding transposed
 rows_all m n w s t h l p =
@@ -49,11 +46,8 @@ module _ (m n row K : ℕ) (s t : List ℕ) where
   moving_all i h l p = record { size = p.size; bytes = λ j v a b. p.bytes j v a (omega arith) (b, λ _. omega arith, λ _. omega arith) }
 
 module _ (m n row K i k : ℕ) (s t : List ℕ) (rows : row + K ≤ m) (byte : i < n) (next : k < K) where
-  -- where byte i of row row + k is read, and where it is put
-  pub from_room : (row + k) * n + i < m * n
-  from_room = in_block (row + k) i n m (omega arith) byte
-
-  pub to_room : i * m + (row + k) < n * m
+  -- where byte i of row row + k is put
+  to_room : i * m + (row + k) < n * m
   to_room = in_block i (row + k) m n byte (omega arith)
 
   -- one store: the other places keep what they hold

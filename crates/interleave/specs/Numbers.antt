@@ -1,8 +1,10 @@
 -- Why a call on an interleaver is refused, and the paper's number for it (document 01, Numbers a call can answer). The refusals of specs/ are
 -- those numbers, and an answer of the code gives, or refuses with the error that its number stands for.
 -- Assumes nothing.
-use Rattle.std.specs.Prelude.{◌≡◌, refl, ◌≢◌, Result, Ok, Err, ℕ, zero, suc, ◌≤◌, ◌<◌}
+use Rattle.std.specs.Prelude.{◌≡◌, refl, ◌≢◌, Bool, false, T, Result, Ok, Err, ℕ, zero, suc, ◌≤◌, ◌<◌}
+use Rattle.std.specs.Result.{IsErrAnd}
 use Rattle.std.proofs.Common.{ap, ◌∙◌, arith}
+use Rattle.std.proofs.lemmas.Result.{err_from_is_err_and}
 use Rattle.algebra.specs.Refusal.{first, if_zero}
 use Rattle.interleave.specs.declared.block.BlockError.{BlockError}
 use Rattle.interleave.specs.declared.block.BlockError.TheVariants as block
@@ -48,14 +50,27 @@ module _ {A E : Type 0} (error : ℕ → E) (a : A) where
   passed (suc k) x e = absurd (let z : ◌≡◌ {A = Result A E} (Ok x) (Err (error (suc k))) = e in cc)
 
   -- one that is refused is refused also by what comes after, ..
-  pub first_refused : (k b : ℕ) (x : E) → Err x ≡ answered error k a → Err x ≡ answered error (first k b) a
-  first_refused zero b x e = absurd (let z : ◌≡◌ {A = Result A E} (Err x) (Ok a) = e in cc)
-  first_refused (suc k) b x e = e
+  pub first_refused : (k b : ℕ) (x : E) {r : Result A E} → IsErrAnd r (λ y. y ≡ x) → Err x ≡ answered error k a → r ≡ answered error (first k b) a
+  first_refused zero b x {r} h e = absurd (let z : ◌≡◌ {A = Result A E} (Err x) (Ok a) = e in cc)
+  first_refused (suc k) b x {r} h e = let p = err_from_is_err_and r h in rw (p.1, p.2) e
 
-  -- .. and its error is that of its number
-  pub failed : (k : ℕ) (x : E) → Err x ≡ answered error k a → (k ≢ 0) × (x ≡ error k)
-  failed zero x e = absurd (let z : ◌≡◌ {A = Result A E} (Err x) (Ok a) = e in cc)
-  failed (suc k) x e = (λ z. omega arith, let z : ◌≡◌ {A = Result A E} (Err x) (Err (error (suc k))) = e in cc)
+  -- .. and what a `?` then hands on is the error of its number
+  pub refused : (k : ℕ) (x : E) {B : Type 0} {r : Result B E} → IsErrAnd r (λ y. y ≡ x) → Err x ≡ answered error k a → (k ≢ 0) × (r ≡ Err (error k))
+  refused zero x {B} {r} h e = absurd (let z : ◌≡◌ {A = Result A E} (Err x) (Ok a) = e in cc)
+  refused (suc k) x {B} {r} h e =
+      let p = err_from_is_err_and r h in
+      let z : ◌≡◌ {A = Result A E} (Err x) (Err (error (suc k))) = e in
+      let same : x ≡ error (suc k) = cc in
+      (λ n. omega arith, rw (p.1, p.2, same) refl)
+
+-- what fails the test of the code fails that of the definition
+pub fails : (r b : Bool) → r ≡ b → r ≡ false → ¬ T b
+fails r b e h t = let g = rw (← e, h) at t in g
+
+-- neither of two refusals is numbered above k
+pub first_most : (a b k : ℕ) → a ≤ k → b ≤ k → first a b ≤ k
+first_most zero b k h l = l
+first_most (suc a) b k h l = h
 
 -- what is done with either side of a choice
 pub through : {A B : Type 0} (f : A → B) (k : ℕ) (a b : A) → f (if_zero k a b) ≡ if_zero k (f a) (f b)
@@ -63,7 +78,7 @@ through f zero a b = refl
 through f (suc k) a b = refl
 
 -- an error's number stands for it, and no number above the last is met
-abbrev IsBack : {E : Type 0} → (E → ℕ) → (ℕ → E) → ℕ → Type 0
+abbrev pub IsBack : {E : Type 0} → (E → ℕ) → (ℕ → E) → ℕ → Type 0
 IsBack number error most = (k : ℕ) → 0 < k → k ≤ most → number (error k) ≡ k
 
 pub block_error_back : IsBack block_number block_error 2

@@ -1,6 +1,6 @@
 -- The limits of a delay line and the refusals of its calls (document 01, Delay line and Numbers a call can answer).
 -- Assumes nothing.
-use Rattle.std.specs.Prelude.{◌≡◌, refl, Bool, List, ℕ, zero, suc, ◌-◌, ◌*◌, ◌/◌, ◌%◌, ◌≤◌, ◌<◌, T, length}
+use Rattle.std.specs.Prelude.{◌≡◌, refl, Bool, List, ℕ, ◌-◌, ◌*◌, ◌/◌, ◌%◌, ◌≤◌, ◌<◌, T, length}
 use Rattle.std.proofs.Common.{sym, ◌∙◌, arith}
 use Rattle.std.proofs.Math.Logic.Dec
 use Rattle.std.proofs.Math.Decide.{ℕ_discrete, dec_le, dec_lt, map_dec}
@@ -8,6 +8,7 @@ use Rattle.algebra.specs.Tests.{below}
 use Rattle.algebra.specs.Refusal.{need, need_yes, need_zero, need_either, first, first_none, first_zero, passes}
 use Rattle.rings.specs.Rings.{order, tri_size}
 use Rattle.rings.specs.Run.{RunFits, Ran, run, run_size, run_position}
+use Rattle.interleave.specs.Numbers.{first_most}
 use Rattle.interleave.specs.Line.{period, period_round}
 use Rattle.interleave.specs.declared.line.Line.{Line}
 
@@ -126,10 +127,6 @@ receive_done l size held many marks r =
     sym (first_none _ _ 0 (receiver_done l size (length held) f.line f.exact) (need_yes _ _ _ 0 r.each (need_yes _ _ _ 0 f.fit (need_yes _ _ _ 0 r.small refl))))
 
 -- which numbers there are
-first_most : (a b k : ℕ) → a ≤ k → b ≤ k → first a b ≤ k
-first_most zero b k h l = l
-first_most (suc a) b k h l = h
-
 line_most : (l : Line) (size : ℕ) → line_refusal l size ≤ 2
 unfolding line_refusal
 line_most l size = need_either _ 1 _ (λ z. z ≤ 2) (omega arith) (need_either _ 2 0 (λ z. z ≤ 2) (omega arith) (omega arith))

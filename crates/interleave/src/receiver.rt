@@ -6,7 +6,7 @@ ghost use Rattle.interleave.specs.Setting.{receive_refusal};
 ghost use Rattle.interleave.specs.Promises.{FreshReceiver, ReceiveStep, ReceiveRun};
 
 use crate::line::{Line, LineError, Received};
-use buffers::{all_below, fill};
+use buffers::all_below;
 
 // A line at position 0 whose memory is zeros, each marked 1: nothing has been received yet.
 // Refused for a setting outside the limits or a memory of another length, and both memories stay as they were.
@@ -21,8 +21,8 @@ pub fn fresh_receiver(
 {
     let line = Line::fresh(branches, unit, n);
     line.check_receiver(memory.len(), held.len())?;
-    fill(memory, 0);
-    fill(held, 1);
+    memory.fill(0);
+    held.fill(1);
     Ok(line)
 }
 

@@ -2,7 +2,6 @@
 ghost use Rattle.interleave.specs.Promises.{FreshSender, SendStep, SendRun};
 
 use crate::line::{Line, LineError, Sent};
-use buffers::fill;
 
 // A line at position 0 whose memory is zeros: every sender starts here.
 // Refused for a setting outside the limits or a memory of another length, which stays as it was.
@@ -16,7 +15,7 @@ pub fn fresh_sender(
 {
     let line = Line::fresh(branches, unit, n);
     line.check(memory.len())?;
-    fill(memory, 0);
+    memory.fill(0);
     Ok(line)
 }
 

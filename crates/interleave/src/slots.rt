@@ -4,7 +4,7 @@ ghost use Rattle.std.specs.Prelude.{length};
 ghost use Rattle.algebra.specs.Lists.{Copied};
 ghost use Rattle.interleave.specs.Slots.{slot_byte, HasWord, TakesWord, PutsWord};
 
-use buffers::work_space;
+use buffers::filled;
 
 // Copies word w out of its slots.
 fn copy_word(depth: usize, w: usize, slots: &[u8], word: &mut [u8])
@@ -21,7 +21,7 @@ pub fn take_word(depth: usize, n: usize, w: usize, slots: &[u8]) -> [u8; 255]
     requires { HasWord depth n w (length slots.now) }
     ensures { TakesWord depth n w slots.now result }
 {
-    let mut word = work_space();
+    let mut word: [u8; 255] = filled(0);
     copy_word(depth, w, slots, &mut word[..n]);
     word
 }

@@ -3,7 +3,8 @@
 use mathlib.Core.Path.{◌≡◌, sym, ap, ◌∙◌}
 use mathlib.Core.Logic.{◌≢◌}
 use Prim.Native.Nat.{ℕ, ◌+◌, ◌-◌, ◌*◌, ◌/◌, ◌%◌, ◌≤◌, ◌<◌}
-use native.Mathlib.Nat.{add-mul, mul-le-mul_left, mod-lt, mod-eq_of_lt, mod-add-mod, div-add-mod', add-mul-mod_self_right, add-mul-div_right, div-eq_of_lt, div-lt_iff_lt-mul}
+use Rattle.std.proofs.Common.{min}
+use native.Mathlib.Nat.{add-mul, mod-le, mod-lt, mod-eq_of_lt, mod-add-mod, div-add-mod', add-mul-mod_self_right, add-mul-div_right, div-eq_of_lt}
 use native.Mathlib.Omega.{arith}
 
 -- from step s on, bytes whose places differ modulo I go to different branches
@@ -33,9 +34,6 @@ first_branch I p r h a g =
     let e : r ≡ 0 + (p / I + 1) * I = omega (arith, div-add-mod' p I, add-mul (p / I) 1 I) in
     (ap (λ (z : ℕ). z % I) e ∙ add-mul-mod_self_right 0 (p / I + 1) I ∙ mod-eq_of_lt h, ap (λ (z : ℕ). z / I) e ∙ add-mul-div_right 0 (p / I + 1) h ∙ omega (arith, div-eq_of_lt h))
 
--- the turns of a run are no more than the number of its first step, so that one more fits
-pub turn_small : (I s i : ℕ) → i < I → (s + i) / I ≤ s
-turn_small I s i h =
-    let some : 0 < I = omega arith in
-    let u : (s + i) / I < s + 1 = (div-lt_iff_lt-mul some).1 (omega (arith, add-mul s 1 I, mul-le-mul_left s some)) in
-    omega arith
+-- a run of n bytes meets as many branches as it has bytes, and at most all
+pub met_all : (I n j i : ℕ) → j < n → 0 < I → min I n ≤ i → j % I < i
+met_all I n j i h u l = omega (arith, mod-le j I, mod-lt j u)

@@ -6,6 +6,8 @@ ghost use Rattle.rings.specs.Rings.{RingFits, order};
 ghost use Rattle.rings.specs.Run.{RunFits, ran, run};
 ghost use Rattle.rings.specs.Branch.{lent, walked};
 
+use std::mem::swap;
+
 // The cell of a ring after this one. After its last comes its first.
 fn next_cell(cell: usize, first: usize, end: usize) -> usize
     requires { (first ≤ cell) × (cell < end) }
@@ -38,14 +40,9 @@ fn walk(
     let low = k * (k - 1) / 2 * unit;
     let end = low + k * unit;
     let mut cell = low + q % (k * unit);
-    let mut i = first;
-    while i < bytes.len() {
-        let byte = bytes[i];
-        let out = memory[cell];
-        memory[cell] = byte;
-        bytes[i] = out;
+    for i in (first..bytes.len()).step_by(branches) {
+        swap(&mut memory[cell], &mut bytes[i]);
         cell = next_cell(cell, low, end);
-        i += branches;
     }
 }
 
@@ -58,17 +55,6 @@ fn ring_of(branch: usize, branches: usize, back: bool) -> usize
         return branches - 1 - branch;
     }
     branch
-}
-
-// How many of the branches a run of `count` bytes meets: byte i goes to the branch that comes i % branches after the first.
-fn branches_met(branches: usize, count: usize) -> usize
-    requires { 0 < branches }
-    ensures { (result ≤ branches) × ((i : ℕ) → i < count → i % branches < result) }
-{
-    if count < branches {
-        return count;
-    }
-    branches
 }
 
 // The position after `count` steps. After the last comes 0. The sum is formed only where it is known to fit.
@@ -85,6 +71,7 @@ fn position_after(start: usize, count: usize, positions: usize) -> usize
 
 // A step for each of the bytes, in order, from a position on; what leaves at a step takes the place of what went in. Answers the position
 // after them. Marks run as bytes do. Rings share no cells, so the branches take their steps one after the other, and only those that the run meets.
+// The numbers stand one by one: no caller has them together, so a struct of them would be made at each call for this function alone.
 pub fn run(
     branches: usize,
     unit: usize,
@@ -97,14 +84,12 @@ pub fn run(
     requires { RunFits branches unit positions start (length memory.old) }
     ensures { ran bytes.new memory.new result ≡ run (order back branches) branches unit positions start memory.old bytes.old }
 {
-    let met = branches_met(branches, bytes.len());
+    let met = branches.min(bytes.len());
     let mut branch = start % branches;
     let mut q = start / branches;
-    let mut i = 0;
-    while i < met {
+    for i in 0..met {
         let k = ring_of(branch, branches, back);
         walk(memory, unit, k, q, branches, i, bytes);
-        i += 1;
         branch += 1;
         if branch == branches {
             branch = 0;

@@ -1,6 +1,6 @@
 -- How a word is corrected: what the steps have made, what they promise together, and the laws for each way out.
 -- Assumes nothing.
-use Rattle.std.specs.Prelude.{◌≡◌, refl, true, false, List, ◌++◌, ℕ, suc, ◌+◌, ◌-◌, ◌*◌, ◌/◌, ◌≤◌, ◌<◌, T, length, take, Option, Some, None}
+use Rattle.std.specs.Prelude.{◌≡◌, refl, true, false, List, ◌++◌, ℕ, suc, ◌+◌, ◌-◌, ◌*◌, ◌/◌, ◌≤◌, ◌<◌, T, length, take, Option, Some, None, Result, Ok, Err}
 use Rattle.std.proofs.Common.{sym, ap, ◌∙◌, subst, arith, take-take}
 use Rattle.std.proofs.Math.Option.{some, none}
 use Rattle.std.proofs.Math.Seq.{take-length, take-append_seam}
@@ -28,6 +28,8 @@ use Rattle.decoder.specs.Corrections.{Corrected}
 use Rattle.word.specs.Solution.{solved, left_zero, made_codeword}
 use Rattle.word.specs.declared.Setting.{Setting}
 use Rattle.word.specs.declared.Figures.{Figures}
+use Rattle.word.specs.declared.DecodeError.{DecodeError}
+use Rattle.word.specs.declared.DecodeError.TheVariants.{BeyondReach}
 
 -- what the steps have made on the way to the word after them
 pub record Steps (s : Setting) (marks : List ℕ) (f : ℕ) (sums before after rest : List ℕ) : Type 0 where
@@ -133,17 +135,17 @@ summed s marks received rest f sums h e = record {
 
 -- an accepted word's correction is at the front of the work space, and goes where `decode` or `decode_part` places it; its map is written, and
 -- that of a refused word is left
-pub record Answered (s : Setting) (received marks map work : List ℕ) (d : Option Figures) (left_map : List ℕ) : Type 0 where
+pub record Answered (s : Setting) (received marks map work : List ℕ) (d : Result Figures DecodeError) (left_map : List ℕ) : Type 0 where
   pub size : length work ≡ 255
-  pub refused : d ≡ None → (corrected s marks received ≡ none) × (left_map ≡ map)
-  pub done : (f : Figures) → d ≡ Some f → (f ≡ figures marks received (take s.n work)) × (corrected s marks received ≡ some (take s.n work)) × (left_map ≡ changes received (take s.n work))
+  pub refused : (e : DecodeError) → d ≡ Err e → (e ≡ BeyondReach) × (corrected s marks received ≡ none) × (left_map ≡ map)
+  pub done : (f : Figures) → d ≡ Ok f → (f ≡ figures marks received (take s.n work)) × (corrected s marks received ≡ some (take s.n work)) × (left_map ≡ changes received (take s.n work))
 
 module _ (s : Setting) (received marks map work : List ℕ) (n : length work ≡ 255) where
-  pub answered_none : corrected s marks received ≡ none → Answered s received marks map work None map
-  answered_none g = record { size = n; refused = λ _. (g, refl); done = λ f e. absurd cc }
+  pub answered_none : corrected s marks received ≡ none → Answered s received marks map work (Err BeyondReach) map
+  answered_none g = record { size = n; refused = λ e h. ((let same : BeyondReach ≡ e = cc in sym same), g, refl); done = λ f e. absurd cc }
 
   pub answered_found : (f : Figures) (u : List ℕ) → corrected s marks received ≡ some (take s.n work) → f ≡ figures marks received (take s.n work) → length received ≡ s.n → u ≡ changes received work
-      → Answered s received marks map work (Some f) u
+      → Answered s received marks map work (Ok f) u
   answered_found f u g h e m =
       let front : changes received work ≡ changes received (take s.n work) = sym (changes_front received work) ∙ ap (λ (k : ℕ). changes received (take k work)) e in
-      record { size = n; refused = λ e. absurd cc; done = λ k e. ((let same : f ≡ k = cc in sym same ∙ h), g, m ∙ front) }
+      record { size = n; refused = λ e h. absurd cc; done = λ k e. ((let same : f ≡ k = cc in sym same ∙ h), g, m ∙ front) }

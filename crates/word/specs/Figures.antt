@@ -1,12 +1,14 @@
 -- Document 01, "Word code": the figures e, f and bits.
 -- Assumes nothing.
-use Rattle.std.specs.Prelude.{◌≡◌, Bool, ◌&&◌, not, List, ◌≢◌, ℕ, eqb, length}
+use Rattle.std.specs.Prelude.{◌≡◌, Bool, ◌&&◌, not, List, ◌∷◌, ◌≢◌, ℕ, ◌+◌, eqb, length}
 use Rattle.std.proofs.Math.Path.{refl}
+use Rattle.std.proofs.Common.{◌≤◌, arith}
+use mir.Val.{bool_byte}
 use Rattle.std.proofs.Math.Bool.{true, false}
 use borrow.Author.Tests.{eq-eqb, ne_eqb}
 use Rattle.std.specs.Int.Count.{ones}
 use Rattle.algebra.specs.Xor.{◌⊕◌}
-use Rattle.algebra.specs.Tests.{at, total, one_if}
+use Rattle.algebra.specs.Tests.{at, total, total_first, one_if}
 
 -- 1 where a place's mark is 0 and its two symbols differ, else 0
 unfoldable pub error_of : (mark x y : ℕ) → ℕ
@@ -32,6 +34,11 @@ bits_at received word i = ones (at received i ⊕ at word i)
 unfoldable pub bits : (received word : List ℕ) → ℕ
 bits received word = total (length received) (bits_at received word)
 
+-- a test as a number, as the code counts it
+pub bit_of : (b : Bool) → (bool_byte b ≡ one_if b) × (bool_byte b ≤ 1)
+bit_of true = (refl, omega arith)
+bit_of false = (refl, omega arith)
+
 -- ---- an error at one place
 
 module _ (mark x y : ℕ) where
@@ -51,12 +58,18 @@ module _ (mark x y : ℕ) where
   unfolding error_of
   error_of_wrong e ne = rw (eq-eqb mark 0 e, ne_eqb x y ne)
 
--- ---- the sums, where they have reached the end
+-- ---- the errors, where their sum has reached the end
 
 pub errors_to : (marks received word : List ℕ) (i : ℕ) → i ≡ length received → total i (error_at marks received word) ≡ errors marks received word
 unfolding errors
 errors_to marks received word i e = rw e
 
-pub bits_to : (received word : List ℕ) (i : ℕ) → i ≡ length received → total i (bits_at received word) ≡ bits received word
+-- ---- the bits, from the first place on
+
+pub bits_first : (x y : ℕ) (received word : List ℕ) → bits (x ∷ received) (y ∷ word) ≡ ones (x ⊕ y) + bits received word
 unfolding bits
-bits_to received word i e = rw e
+bits_first x y received word = total_first (length received) (bits_at (x ∷ received) (y ∷ word))
+
+pub bits_none : (received word : List ℕ) → length received ≡ 0 → bits received word ≡ 0
+unfolding bits total
+bits_none received word e = rw e refl

@@ -1,7 +1,7 @@
 -- The first look at a received word: its marks counted, and what it leaves of its message's check symbols. And the tables by which many words
 -- are looked at.
 -- Assumes nothing.
-use Rattle.std.specs.Prelude.{◌≡◌, refl, Bool, true, false, List, ℕ, ◌+◌, ◌-◌, ◌*◌, ◌^◌, ◌≤◌, ◌<◌, T, length, take, drop}
+use Rattle.std.specs.Prelude.{◌≡◌, refl, Bool, true, false, List, ℕ, ◌+◌, ◌*◌, ◌^◌, ◌≤◌, ◌<◌, T, length, take, drop}
 use Rattle.std.proofs.Math.Path.{sym, ap}
 use Rattle.std.proofs.Common.{◌∙◌, subst, arith, length-drop, take-append-drop, ext_get_or, length-take-le, get_or-take}
 use Rattle.std.proofs.Math.Option.{some, none}
@@ -21,13 +21,15 @@ use Rattle.word.specs.Answers.{figures}
 use Rattle.word.specs.Refusals.{Checked, WordChecked}
 use Rattle.word.specs.Completion.{codeword_from}
 use Rattle.word.specs.Encoding.{clean_is_codeword, codeword_is_clean}
+use Rattle.checks.specs.declared.register.Tables.{Tables}
 use Rattle.word.specs.declared.Setting.{Setting}
 use Rattle.word.specs.declared.Figures.{Figures}
 use Rattle.word.specs.declared.look.Look.{Look}
+use Rattle.word.specs.declared.look.Look.TheVariants.{Lost, Clean, Damaged}
 
 -- the tables are those of the setting's code
-abbrev pub Tabled : Setting → List ℕ → List ℕ → Type 0
-Tabled s low high = Prepared s.m s.b s.r low high
+abbrev pub Tabled : Setting → Tables → Type 0
+Tabled s tables = Prepared s.m s.b s.r tables.low tables.high
 
 -- a word whose symbols stand `step` apart in the slots, from the one at `first` on
 abbrev pub standing : Setting → (step first : ℕ) → List ℕ → List ℕ
@@ -85,10 +87,6 @@ module _ (s : Setting) (step first : ℕ) (slots : List ℕ) (g : Stands s step 
           absurd (ne (sym (get_or-take s.r checks j 0 l) ∙ ap (λ (v : List ℕ). at v j) (codeword_is_clean s g.setting w checks size g.small room own (codeword s w (rw e tt))) ∙ tail j l))
       no false e = refl
 
--- the figures of a received codeword with f marks
-pub record CleanFigures (f : ℕ) (r : Figures) : Type 0 where
-  pub figures : r ≡ record { errors = 0; marked = f; bits = 0 }
-
 -- what is known of a received word once its marks are counted, and it is known what it leaves of its message's check symbols
 pub record Measured (s : Setting) (marks received : List ℕ) (f : ℕ) (rest : List ℕ) : Type 0 where
   pub checked : Checked s marks received
@@ -96,30 +94,19 @@ pub record Measured (s : Setting) (marks received : List ℕ) (f : ℕ) (rest : 
   pub few : f ≤ s.r
   pub left : LeftOver s.m s.b s.r received (take s.r rest)
 
--- what the comparison of check symbols gives, with f marks
-pub record Compared (s : Setting) (f : ℕ) (received : List ℕ) (r : Look) : Type 0 where
-  pub found : r.lost ≡ false
-  pub marks : r.marked ≡ f
-  pub left : LeftOver s.m s.b s.r received (take s.r r.rest)
-  pub none : r.clean ≡ true → T (below 1 (take s.r r.rest))
+-- what a look at a word tells: no codeword qualifies; or the word is one, with these figures; or it is damaged, and measured
+abbrev pub Told : Setting → (marks received : List ℕ) → Look → Type 0
+Told s marks received Lost = corrected s marks received ≡ none
+Told s marks received (Clean f) = (corrected s marks received ≡ some received) × (f ≡ figures marks received received)
+Told s marks received (Damaged f rest) = Measured s marks received f rest
 
--- what a look at a word tells: no codeword qualifies; or the word is one; or it is damaged, and measured
 pub record Looked (s : Setting) (marks received : List ℕ) (r : Look) : Type 0 where
   pub fine : Checked s marks received
-  pub lost : r.lost ≡ true → corrected s marks received ≡ none
-  pub clean : r.lost ≡ false → r.clean ≡ true → corrected s marks received ≡ some received
-  pub measured : r.lost ≡ false → Measured s marks received r.marked r.rest
-
--- a front of r entries, as the code takes it
-pub front_of : (r : ℕ) (w : List ℕ) → take (r - 0) w ≡ take r w
-front_of r w = let e : r - 0 ≡ r = omega arith in ap (λ (k : ℕ). take k w) e
+  pub told : Told s marks received r
 
 -- the test of what is left over, and of all that stands behind it
-pub nothing_left : (r : ℕ) (rest : List ℕ) (t : Bool) → t ≡ below 1 rest → t ≡ true → T (below 1 (take r rest))
-nothing_left r rest t e h = (below_split 1 (take r rest) (drop r rest) (rw (take-append-drop r rest, ← e, h) tt)).0
-
-different : true ≡ false → ⊥
-different e = let z : ◌≡◌ {A = ℕ} 0 1 = cc in omega arith
+nothing_left : (r : ℕ) (rest : List ℕ) → true ≡ below 1 rest → T (below 1 (take r rest))
+nothing_left r rest e = (below_split 1 (take r rest) (drop r rest) (rw (take-append-drop r rest, ← e) tt)).0
 
 module _ (s : Setting) (marks received : List ℕ) (ch : Checked s marks received) where
   -- the marks that were counted
@@ -144,27 +131,24 @@ module _ (s : Setting) (marks received rest : List ℕ) (f : ℕ) (h : Measured 
   clean_corrected = corrected_only s k.setting marks received k.size received
       (is_in_reach s marks received received (record { code = is_clean; bound = omega (arith, errors_self marks received, h.few, h.counted) }))
 
--- and then its figures are those of a codeword
-pub clean_figures : (s : Setting) (marks received rest : List ℕ) (f : ℕ) → Measured s marks received f rest → (r : Figures) → CleanFigures f r → r ≡ figures marks received received
-clean_figures s marks received rest f h r g = g.figures ∙ rw (errors_self marks received, bits_self received, ← h.counted)
+-- ---- the three ways out of a look
 
--- ---- the two ways out of a look
+module _ (s : Setting) (marks received : List ℕ) (ch : Checked s marks received) (f : ℕ) (ef : f ≡ total (length marks) (at marks)) where
+  counted : f ≡ marked marks received
+  counted = marks_counted s marks received ch f ef
 
-module _ (s : Setting) (marks received : List ℕ) (ch : Checked s marks received) (f : ℕ) (ef : f ≡ total (length marks) (at marks)) (r : Look) where
-  pub looked_lost : s.r < f → r.lost ≡ true → Looked s marks received r
-  looked_lost l e = record {
-    fine = ch;
-    lost = λ _. overmarked s marks received ch f (marks_counted s marks received ch f ef) l;
-    clean = λ g. absurd (different (sym e ∙ g));
-    measured = λ g. absurd (different (sym e ∙ g));
-  }
+  pub looked_lost : s.r < f → Looked s marks received Lost
+  looked_lost l = record { fine = ch; told = overmarked s marks received ch f counted l }
 
-  pub looked_at : f ≤ s.r → Compared s f received r → Looked s marks received r
-  looked_at l c =
-      let seen : Measured s marks received r.marked r.rest = record { checked = ch; counted = c.marks ∙ marks_counted s marks received ch f ef; few = omega (arith, c.marks); left = c.left } in
-      record {
-        fine = ch;
-        lost = λ g. absurd (different (sym g ∙ c.found));
-        clean = λ _ e. clean_corrected s marks received r.rest r.marked seen (c.none e);
-        measured = λ _. seen;
-      }
+  module _ (few : f ≤ s.r) (rest : List ℕ) (left : LeftOver s.m s.b s.r received (take s.r rest)) where
+    seen : Measured s marks received f rest
+    seen = record { checked = ch; counted = counted; few = few; left = left }
+
+    pub looked_clean : true ≡ below 1 rest → (g : Figures) → g ≡ record { errors = 0; marked = f; bits = 0 } → Looked s marks received (Clean g)
+    looked_clean t g e = record {
+      fine = ch;
+      told = (clean_corrected s marks received rest f seen (nothing_left s.r rest t), e ∙ rw (errors_self marks received, bits_self received, ← counted));
+    }
+
+    pub looked_damaged : Looked s marks received (Damaged f rest)
+    looked_damaged = record { fine = ch; told = seen }

@@ -59,9 +59,6 @@ allowed_no s h = go (allowed s) refl
     go true e = absurd (h (limits s (rw e tt)))
     go false e = refl
 
-pub allowed_field : (s : Setting) → is_field s.m ≡ false → false ≡ allowed s
-allowed_field s e = allowed_no s λ a. rw e at a.field
-
 -- an m that is allowed names its own field
 pub named : (m : ℕ) → T (is_field m) → wide m ≡ m
 unfolding is_field
@@ -73,14 +70,14 @@ named m t = elim (ℕ_discrete m 3) [
   ]
 ]
 
-pub allowed_long : (s : Setting) (q : ℕ) → q ≡ 2 ^ wide s.m → q ≤ s.n → false ≡ allowed s
-allowed_long s q e h = allowed_no s λ a. omega (arith, a.short, ap (λ (k : ℕ). 2 ^ k) (named s.m a.field))
-
--- all limits kept, with the number of symbols as the code counts it
-pub allowed_all : (s : Setting) (q : ℕ) → is_field s.m ≡ true → q ≡ 2 ^ wide s.m → s.n < q → 2 ≤ s.r → s.r ≤ 16 → s.r < s.n → s.b ≤ 1 → true ≡ allowed s
-allowed_all s q f e h l k n b =
-    let field : T (is_field s.m) = rw f tt in
-    allowed_yes s (record { field = field; low = l; high = k; room = n; short = omega (arith, ap (λ (k : ℕ). 2 ^ k) (named s.m field)); start = b })
+-- the test, with the number of symbols as the code counts it
+pub allowed_by : (s : Setting) (q : ℕ) → q ≡ 2 ^ wide s.m → allowed s ≡ (is_field s.m && leb 2 s.r && leb s.r 16 && ltb s.r s.n && ltb s.n q && leb s.b 1)
+unfolding allowed
+allowed_by s q e = go (is_field s.m) refl
+  where
+    go : (f : Bool) → is_field s.m ≡ f → (is_field s.m && leb 2 s.r && leb s.r 16 && ltb s.r s.n && ltb s.n (2 ^ s.m) && leb s.b 1) ≡ (is_field s.m && leb 2 s.r && leb s.r 16 && ltb s.r s.n && ltb s.n q && leb s.b 1)
+    go true h = rw (e, named s.m (rw h tt))
+    go false h = rw h
 
 -- so no word has more than 255 symbols
 pub at_most : (s : Setting) → Allowed s → s.n ≤ 255

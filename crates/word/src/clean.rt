@@ -3,7 +3,7 @@
 ghost use Rattle.word.specs.Promises.{IsClean};
 
 use crate::limits::check_word;
-use crate::tables::{is_clean_by, no_table, prepare};
+use crate::tables::{Tables, is_clean_by, prepare};
 use crate::{InputError, Setting};
 
 // Whether a received word is a codeword. Refused 1 for the setting, 2 for the length, 3 for a symbol of 2^m or more.
@@ -11,8 +11,7 @@ pub fn is_clean(s: Setting, word: &[u8]) -> Result<bool, InputError>
     ensures { IsClean s word.now result }
 {
     check_word(s, word)?;
-    let mut low = no_table();
-    let mut high = no_table();
-    prepare(s, &mut low, &mut high);
-    Ok(is_clean_by(s, &low, &high, word, 1, 0))
+    let mut tables = Tables::none();
+    prepare(s, &mut tables);
+    Ok(is_clean_by(s, &tables, word, 1, 0))
 }

@@ -1,9 +1,9 @@
 // How a word is corrected: the codeword with 2e + f ≤ r is found by peeling (docs/ARCHITECTURE.md), or there is none.
-ghost use Rattle.std.specs.Prelude.{◌≡◌, ◌*◌, ◌≤◌, length};
+ghost use Rattle.std.specs.Prelude.{◌≡◌, ◌≤◌, length};
 ghost use Rattle.word.specs.Looking.{Measured};
 ghost use Rattle.word.specs.Correcting.{Steps, Summed, Corrects};
 
-use crate::count::{count_bits, count_errors};
+use crate::count::{count_bits, count_errors, figures};
 use crate::{Figures, Setting};
 use buffers::copy;
 use checks::syndrome::{all_zero, syndromes};
@@ -11,18 +11,6 @@ use decoder::correct::correct;
 use decoder::kernel::kernel;
 use decoder::locate::{candidates, locators};
 use decoder::peel::peel_all;
-
-// The figures of a word that was found: its e wrong symbols, f marks and changed bits.
-fn found(e: usize, f: usize, bits: usize) -> Figures
-    requires { (e ≤ 255) × (f ≤ 255) × (bits ≤ 8 * 255) }
-    ensures { result ≡ record { errors = e; marked = f; bits = bits } }
-{
-    Figures {
-        errors: e as u16,
-        marked: f as u16,
-        bits: bits as u16,
-    }
-}
 
 // Corrects every candidate place of a word with these power sums, f of whose places are marked, and gives the power sums that are left.
 fn correct_places(s: Setting, marks: &[u8], f: usize, sums: [u8; 16], word: &mut [u8]) -> [u8; 16]
@@ -59,7 +47,7 @@ fn correct_errors(
     if s.r < 2 * e + f {
         return None;
     }
-    Some(found(e, f, count_bits(received, out)))
+    Some(figures(e, f, count_bits(received, out)))
 }
 
 // Puts the codeword with 2e + f ≤ r into `out`, where there is one, and gives its figures. The syndromes are taken of what the word leaves over, which has at most
@@ -77,6 +65,6 @@ pub fn correct_word(
 {
     copy(received, out);
     let r = s.r;
-    let sums = syndromes(s.m, s.b, &rest[0..r]);
+    let sums = syndromes(s.m, s.b, &rest[..r]);
     correct_errors(s, received, marks, f, sums, out)
 }

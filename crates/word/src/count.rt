@@ -6,17 +6,13 @@ ghost use Rattle.algebra.specs.Xor.{◌⊕◌};
 ghost use Rattle.algebra.specs.Tests.{at, total, below};
 ghost use Rattle.word.specs.Figures.{error_of, errors, bits};
 
+use crate::Figures;
+
 // 1 where a place is unmarked and its two symbols differ, else 0.
 fn error_at(mark: u8, x: u8, y: u8) -> usize
     ensures { (result ≡ error_of mark x y) × (result ≤ 1) }
 {
-    if mark != 0 {
-        return 0;
-    }
-    if x == y {
-        return 0;
-    }
-    1
+    usize::from(mark == 0 && x != y)
 }
 
 // The unmarked places where two words differ.
@@ -25,10 +21,8 @@ pub fn count_errors(marks: &[u8], received: &[u8], word: &[u8]) -> usize
     ensures { (result ≡ errors marks.now received.now word.now) × (result ≤ length received.now) }
 {
     let mut e: usize = 0;
-    let mut i = 0;
-    while i < received.len() {
+    for i in 0..received.len() {
         e += error_at(marks[i], received[i], word[i]);
-        i += 1;
     }
     e
 }
@@ -39,19 +33,17 @@ pub fn count_marks(marks: &[u8]) -> usize
     ensures { (result ≡ total (length marks.now) (at marks.now)) × (result ≤ length marks.now) }
 {
     let mut f: u8 = 0;
-    let mut i = 0;
-    while i < marks.len() {
-        f += marks[i];
-        i += 1;
+    for mark in marks {
+        f += *mark;
     }
-    f as usize
+    usize::from(f)
 }
 
 // How many bits of two symbols differ.
 fn bits_at(x: u8, y: u8) -> usize
     ensures { (result ≡ ones (x ⊕ y)) × (result ≤ 8) }
 {
-    u8::count_ones(x ^ y) as usize
+    (x ^ y).count_ones() as usize
 }
 
 // How many bits of two words differ.
@@ -60,10 +52,20 @@ pub fn count_bits(received: &[u8], word: &[u8]) -> usize
     ensures { (result ≡ bits received.now word.now) × (result ≤ 8 * length received.now) }
 {
     let mut sum: usize = 0;
-    let mut i = 0;
-    while i < received.len() {
-        sum += bits_at(received[i], word[i]);
-        i += 1;
+    for (x, y) in received.iter().zip(word) {
+        sum += bits_at(*x, *y);
     }
     sum
+}
+
+// The figures of a word with e wrong symbols, f marks and so many changed bits.
+pub fn figures(e: usize, f: usize, bits: usize) -> Figures
+    requires { (e ≤ 255) × (f ≤ 255) × (bits ≤ 8 * 255) }
+    ensures { result ≡ record { errors = e; marked = f; bits = bits } }
+{
+    Figures {
+        errors: e as u16,
+        marked: f as u16,
+        bits: bits as u16,
+    }
 }

@@ -19,14 +19,15 @@ ghost use Rattle.word.specs.Setting.{message_size};
 ghost use Rattle.word.specs.Looking.{Measured, Looked};
 ghost use Rattle.word.specs.Correcting.{Answered};
 
-use buffers::{copy, fill, join, work_space};
+use buffers::{copy, fill, filled, join};
 use checks::register::check_symbols;
 pub use clean::is_clean;
 use correct::correct_word;
 pub use limits::is_allowed;
 use limits::{check_message, check_part, check_received};
-use look::{Look, clean_figures, look_at};
+use look::{Look, look_at};
 use map::note_changes;
+use tables::{Tables, decode_part_by, prepare};
 
 // What a word code is set to: m bits a symbol, n symbols a word, r check symbols, and b, the power of a at which its zeros start.
 #[derive(Clone, Copy)]
@@ -95,14 +96,16 @@ fn answer(
     marks: &[u8],
     work: &mut [u8],
     map: &mut [u8],
-) -> Option<Figures>
+) -> Result<Figures, DecodeError>
     requires { Measured s marks.now received.now f rest × (length work.old ≡ 255) × (length map.old ≡ s.n) }
     ensures { Answered s received.now marks.now map.old work.new result map.new }
 {
     let n = s.n;
-    let figures = correct_word(s, f, rest, received, marks, &mut work[0..n])?;
+    let figures = correct_word(s, f, rest, received, marks, &mut work[..n]).ok_or(
+        DecodeError::BeyondReach,
+    )?;
     note_changes(received, work, map);
-    Some(figures)
+    Ok(figures)
 }
 
 // Corrects a word that has been looked at where it stands. Nothing but the map is written unless it is damaged.
@@ -117,22 +120,20 @@ fn in_place(
     ensures { Decodes s word.old marks.now map.old result word.new map.new }
 {
     fill(map, 0);
-    if seen.lost {
-        return Err(DecodeError::BeyondReach);
+    match seen {
+        Look::Lost => Err(DecodeError::BeyondReach),
+        Look::Clean(figures) => Ok(figures),
+        Look::Damaged { marked, rest } => {
+            let mut work: [u8; 255] = filled(0);
+            let figures = answer(s, marked, rest, word, marks, &mut work, map)?;
+            copy(&work, word);
+            Ok(figures)
+        }
     }
-    if seen.clean {
-        return Ok(clean_figures(seen.marked));
-    }
-    let rest = seen.rest;
-    let mut work = work_space();
-    let figures = answer(s, seen.marked, rest, word, marks, &mut work, map).ok_or(
-        DecodeError::BeyondReach,
-    )?;
-    copy(&work, word);
-    Ok(figures)
 }
 
-// The same with the message put into a part of its own, and the received word only read.
+// The same with the message put into a part of its own, and the received word only read. A function of its own, since `in_place` reads what it
+// writes, and leaves a clean word uncopied.
 fn to_part(
     s: Setting,
     seen: Look,
@@ -145,20 +146,19 @@ fn to_part(
     ensures { DecodesPart s received.now marks.now part.old map.old result part.new map.new }
 {
     fill(map, 0);
-    if seen.lost {
-        return Err(DecodeError::BeyondReach);
+    match seen {
+        Look::Lost => Err(DecodeError::BeyondReach),
+        Look::Clean(figures) => {
+            copy(received, part);
+            Ok(figures)
+        }
+        Look::Damaged { marked, rest } => {
+            let mut work: [u8; 255] = filled(0);
+            let figures = answer(s, marked, rest, received, marks, &mut work, map)?;
+            copy(&work, part);
+            Ok(figures)
+        }
     }
-    if seen.clean {
-        copy(received, part);
-        return Ok(clean_figures(seen.marked));
-    }
-    let rest = seen.rest;
-    let mut work = work_space();
-    let figures = answer(s, seen.marked, rest, received, marks, &mut work, map).ok_or(
-        DecodeError::BeyondReach,
-    )?;
-    copy(&work, part);
-    Ok(figures)
 }
 
 // Corrects a received word where it stands to the codeword with 2e + f ≤ r; its marks are only read. The map gets 1 where the word was
@@ -174,7 +174,9 @@ pub fn decode(
     ensures { Decodes s word.old marks.now map.old result word.new map.new }
 {
     check_received(s, word, marks, map)?;
-    let seen = look_at(s, word, marks);
+    let mut tables = Tables::none();
+    prepare(s, &mut tables);
+    let seen = look_at(s, &tables, word, marks);
     in_place(s, seen, word, marks, map)
 }
 
@@ -190,6 +192,7 @@ pub fn decode_part(
     ensures { DecodesPart s received.now marks.now part.old map.old result part.new map.new }
 {
     check_part(s, received, marks, part, map)?;
-    let seen = look_at(s, received, marks);
-    to_part(s, seen, received, marks, part, map)
+    let mut tables = Tables::none();
+    prepare(s, &mut tables);
+    decode_part_by(s, &tables, received, marks, part, map)
 }

@@ -13,35 +13,14 @@ use field::is_field;
 pub fn symbols_of(m: usize) -> usize
     ensures { result ≡ 2 ^ wide m }
 {
-    if m == 3 {
-        return 8;
-    }
-    256
+    if m == 3 { 8 } else { 256 }
 }
 
 // Whether a setting keeps the limits.
 pub fn is_allowed(s: Setting) -> bool
     ensures { result ≡ allowed s }
 {
-    if !is_field(s.m) {
-        return false;
-    }
-    if s.r < 2 {
-        return false;
-    }
-    if 16 < s.r {
-        return false;
-    }
-    if s.n <= s.r {
-        return false;
-    }
-    if 1 < s.b {
-        return false;
-    }
-    if symbols_of(s.m) <= s.n {
-        return false;
-    }
-    true
+    is_field(s.m) && 2 <= s.r && s.r <= 16 && s.r < s.n && s.n < symbols_of(s.m) && s.b <= 1
 }
 
 // Checks a message, and the room for the word that it is to become.
@@ -51,10 +30,7 @@ pub fn check_message(s: Setting, message: &[u8], word: &[u8]) -> Result<(), Inpu
     if !is_allowed(s) {
         return Err(InputError::BadSetting);
     }
-    if message.len() != s.n - s.r {
-        return Err(InputError::BadLength);
-    }
-    if word.len() != s.n {
+    if message.len() != s.n - s.r || word.len() != s.n {
         return Err(InputError::BadLength);
     }
     if !all_below(message, symbols_of(s.m)) {
@@ -75,19 +51,10 @@ pub fn check_received(
     if !is_allowed(s) {
         return Err(InputError::BadSetting);
     }
-    if received.len() != s.n {
+    if received.len() != s.n || marks.len() != s.n || map.len() != s.n {
         return Err(InputError::BadLength);
     }
-    if marks.len() != s.n {
-        return Err(InputError::BadLength);
-    }
-    if map.len() != s.n {
-        return Err(InputError::BadLength);
-    }
-    if !all_below(received, symbols_of(s.m)) {
-        return Err(InputError::BadSymbol);
-    }
-    if !all_below(marks, 2) {
+    if !all_below(received, symbols_of(s.m)) || !all_below(marks, 2) {
         return Err(InputError::BadSymbol);
     }
     Ok(())

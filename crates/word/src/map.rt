@@ -6,10 +6,7 @@ ghost use Rattle.word.specs.Map.{change_of, changes};
 fn change_at(x: u8, y: u8) -> u8
     ensures { (result ≡ change_of x y) × (result < 2) }
 {
-    if x == y {
-        return 0;
-    }
-    1
+    u8::from(x != y)
 }
 
 // Writes the map of a received word, whose correction is at the front of the work space.
@@ -17,9 +14,7 @@ pub fn note_changes(received: &[u8], work: &[u8], map: &mut [u8])
     requires { (length map.old ≡ length received.now) × (length received.now ≤ length work.now) }
     ensures { map.new ≡ changes received.now work.now }
 {
-    let mut i = 0;
-    while i < map.len() {
+    for i in 0..map.len() {
         map[i] = change_at(received[i], work[i]);
-        i += 1;
     }
 }

@@ -8,66 +8,52 @@ ghost use Rattle.word.specs.Codeword.{is_codeword};
 ghost use Rattle.word.specs.Looking.{Tabled, Stands, standing};
 ghost use Rattle.word.specs.Promises.{DecodesPart};
 
-use crate::look::look_by;
+use crate::look::look_at;
 use crate::{DecodeError, Figures, Setting, to_part};
 use buffers::join;
 use checks::left::agree;
 use checks::register;
+pub use checks::register::Tables;
 
-// Room for a table. A call of its own keeps the array out of its callers' proofs.
-pub fn no_table() -> [u64; 128]
-    ensures { length result ≡ 128 }
+// Makes the tables of a setting.
+pub fn prepare(s: Setting, tables: &mut Tables)
+    requires { (s.b ≤ 1) × (s.r ≤ 16) }
+    ensures { Tabled s tables.new }
 {
-    [0; 128]
-}
-
-// Makes the tables of a setting in two such arrays.
-pub fn prepare(s: Setting, low: &mut [u64; 128], high: &mut [u64; 128])
-    requires { (s.b ≤ 1) × (s.r ≤ 16) × (length low.old ≡ 128) × (length high.old ≡ 128) }
-    ensures { Tabled s low.new high.new }
-{
-    register::prepare(s.m, s.b, s.r, low, high);
+    register::prepare(s.m, s.b, s.r, tables);
 }
 
 // `encode`, by tables.
-pub fn encode_by(s: Setting, low: &[u64; 128], high: &[u64; 128], message: &[u8], word: &mut [u8])
-    requires { MessageChecked s message.now word.old × Tabled s low.now high.now }
+pub fn encode_by(s: Setting, tables: &Tables, message: &[u8], word: &mut [u8])
+    requires { MessageChecked s message.now word.old × Tabled s tables.now }
     ensures { word.new ≡ encoded s message.now }
 {
-    let checks = register::check_symbols_by(s.r, low, high, message);
+    let checks = register::check_symbols_by(s.r, tables, message);
     join(message, &checks, word);
 }
 
 // `decode_part`, by tables.
 pub fn decode_part_by(
     s: Setting,
-    low: &[u64; 128],
-    high: &[u64; 128],
+    tables: &Tables,
     received: &[u8],
     marks: &[u8],
     part: &mut [u8],
     map: &mut [u8],
 ) -> Result<Figures, DecodeError>
-    requires { Checked s marks.now received.now × Tabled s low.now high.now × (length part.old ≡ message_size s) × (length map.old ≡ s.n) }
+    requires { Checked s marks.now received.now × Tabled s tables.now × (length part.old ≡ message_size s) × (length map.old ≡ s.n) }
     ensures { DecodesPart s received.now marks.now part.old map.old result part.new map.new }
 {
-    let seen = look_by(s, low, high, received, marks);
+    let seen = look_at(s, tables, received, marks);
     to_part(s, seen, received, marks, part, map)
 }
 
 // `is_clean`, by tables, of a word whose symbols stand `step` apart in the slots, from the one at `first` on. They are read where they stand.
-pub fn is_clean_by(
-    s: Setting,
-    low: &[u64; 128],
-    high: &[u64; 128],
-    slots: &[u8],
-    step: usize,
-    first: usize,
-) -> bool
-    requires { Stands s step first slots.now × Tabled s low.now high.now }
+pub fn is_clean_by(s: Setting, tables: &Tables, slots: &[u8], step: usize, first: usize) -> bool
+    requires { Stands s step first slots.now × Tabled s tables.now }
     ensures { result ≡ is_codeword s (standing s step first slots.now) }
 {
     let k = s.n - s.r;
-    let checks = register::check_symbols_of(s.r, low, high, slots, step, first, k);
+    let checks = register::check_symbols_of(s.r, tables, slots, step, first, k);
     agree(checks, s.r, slots, step, first, k)
 }

@@ -7,6 +7,6 @@ pub returns-then-m-eq3 : goal.returns-then-m-eq3
 unfolding is_field
 returns-then-m-eq3 c = simp (eq-eqb _ _ c.if-m-eq3.true)
 
-pub returns : goal.returns
+pub returns-else-m-eq3 : goal.returns-else-m-eq3
 unfolding is_field
-returns c = simp (ne_eqb _ _ c.if-m-eq3.false)
+returns-else-m-eq3 c = simp (ne_eqb _ _ c.if-m-eq3.false)

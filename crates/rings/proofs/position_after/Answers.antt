@@ -2,11 +2,8 @@
 use mathlib.Core.Path.{◌≡◌, sym}
 use Prim.Native.Nat.{◌+◌, ◌-◌}
 use native.Mathlib.Omega.{arith}
-use native.Mathlib.Nat.{mod-eq_of_lt, mod-eq-sub-mod}
+use native.Mathlib.Nat.{mod-eq-sub-mod}
 use Rattle.rings.proofs.position_after.Goals as goal
-
-pub returns-then-count-left : goal.returns-then-count-left
-returns-then-count-left c = sym (mod-eq_of_lt (omega arith))
 
 pub returns : goal.returns
 returns c =

@@ -1,77 +1,36 @@
 -- `run` meets its contract. The invariant: the first i branches of the run have taken all their steps, and `branch` and q are those of the next
 -- (proofs/Branches.antt).
 use mathlib.Core.Path.{refl, ◌∙◌}
-use Prim.Native.Nat.{◌+◌, ◌<◌}
+use Prim.Native.Nat.{◌+◌}
 use native.Mathlib.Omega.{arith}
 use native.Mathlib.Nat.{mod-lt}
 use Rattle.rings.specs.Rings.{order_small}
 use Rattle.rings.specs.Run.{ring_fits}
-use Rattle.rings.proofs.Steps.{turn_small}
+use Rattle.rings.proofs.Steps.{met_all}
 use Rattle.rings.proofs.Branches.{branches_none, branches_more, branches_round, branches_all}
 use Rattle.rings.proofs.run.Goals as goal
-
-pub branches_met-met-requires : goal.branches_met-met-requires
-branches_met-met-requires c = c.requires.branches.0
-
-pub nonzero_rem-branch : goal.nonzero_rem-branch
-nonzero_rem-branch c = omega (arith, c.requires.branches.0)
-
-pub nonzero_div-q : goal.nonzero_div-q
-nonzero_div-q c = omega (arith, c.requires.branches.0)
+use Rattle.rings.proofs.run.Goals.{then-branch-branches, else-branch-branches}
 
 pub loop-i-init : goal.loop-i-init
 loop-i-init c = branches_none _ _ _ _ _ _
-
-pub ring_of-k-requires : goal.ring_of-k-requires
-ring_of-k-requires c = rw c.loop-i.invariant.stands (mod-lt _ c.requires.branches.0)
 
 pub walk-requires : goal.walk-requires
 walk-requires c =
     let l = c.loop-i in
     let here = mod-lt (c.args.start + l.i) c.requires.branches.0 in (
-      omega (arith, c.loop-i-test.true, c.branches_met-met.ensures.0),
+      omega (arith, c.loop-i-test.true, c.min-met.ensures),
       c.requires.branches.1,
       rw (l.invariant.exact, c.ring_of-k.ensures, l.invariant.stands) (ring_fits _ _ _ _ _ _ c.requires (order_small c.args.back c.args.branches _ here)),
     )
 
-pub overflow_add-i : goal.overflow_add-i
-overflow_add-i c = omega (arith, c.loop-i-test.true)
-
-pub overflow_add-branch : goal.overflow_add-branch
-overflow_add-branch c =
-    omega (arith, c.loop-i.invariant.stands, mod-lt (c.args.start + c.loop-i.i) c.requires.branches.0)
-
-pub overflow_add-q : goal.overflow_add-q
-overflow_add-q c =
-    let met : c.loop-i.i < c.args.branches = omega (arith, c.loop-i-test.true, c.branches_met-met.ensures.0) in
-    omega (arith, c.loop-i.invariant.turn, c.requires.place, turn_small c.args.branches c.args.start c.loop-i.i met)
-
-pub loop-i-smaller-then-branch-branches : goal.loop-i-smaller-then-branch-branches
-loop-i-smaller-then-branch-branches c = omega (arith, c.loop-i-test.true)
-
-pub loop-i-preserved-then-branch-branches : goal.loop-i-preserved-then-branch-branches
-loop-i-preserved-then-branch-branches c =
-    branches_round _ _ _ _ _ _ _ c.requires _ _ _ _ _ _ _ c.loop-i.invariant
-    (rw c.ring_of-k.ensures at c.walk.ensures) c.memory-1.given c.bytes-1.given c.if-branch-branches.true
-
-pub loop-i-smaller : goal.loop-i-smaller
-loop-i-smaller c = omega (arith, c.loop-i-test.true)
-
 pub loop-i-preserved : goal.loop-i-preserved
 loop-i-preserved c =
-    branches_more _ _ _ _ _ _ _ c.requires _ _ _ _ _ _ _ c.loop-i.invariant
-    (rw c.ring_of-k.ensures at c.walk.ensures) c.memory-1.given c.bytes-1.given c.if-branch-branches.false
-
-pub position_after-requires : goal.position_after-requires
-position_after-requires c = c.requires.place
-
-pub shape_of-memory : goal.shape_of-memory
-shape_of-memory c = c.loop-i.invariant.exact
-
-pub shape_of-bytes : goal.shape_of-bytes
-shape_of-bytes c = c.loop-i.invariant.count
+    elim c.if-branch-branches.branch [
+      | then-branch-branches w ↦ rw (w.branch'-is, w.q-is) (branches_round _ _ _ _ _ _ _ c.requires _ _ _ _ _ _ _ c.loop-i.invariant (rw c.ring_of-k.ensures at c.walk.ensures) c.walk.auto.memory c.walk.auto.bytes w.if-branch-branches.true)
+      | else-branch-branches w ↦ rw (w.branch'-is, w.q-is) (branches_more _ _ _ _ _ _ _ c.requires _ _ _ _ _ _ _ c.loop-i.invariant (rw c.ring_of-k.ensures at c.walk.ensures) c.walk.auto.memory c.walk.auto.bytes w.if-branch-branches.false)
+    ]
 
 pub returns : goal.returns
 returns c =
     branches_all _ _ _ _ _ _ _ c.requires _ _ _ _ _ _
-    (λ j h. omega (arith, c.branches_met-met.ensures.1 j h, c.loop-i-test.false)) (c.position_after.ensures ∙ rw c.loop-i.invariant.count refl) c.loop-i.invariant
+    (λ j h. met_all _ _ j _ h c.requires.branches.0 (omega (arith, c.min-met.ensures))) (c.position_after.ensures ∙ rw c.loop-i.invariant.count refl) c.loop-i.invariant

@@ -1,62 +1,40 @@
 -- `to_part` meets its contract: the map is cleared first; the message of a clean word is its front, and else `answer` says what the paper says,
 -- and the front of an accepted word is copied to the part.
-use mathlib.Core.Path.{◌≡◌, sym, ◌∙◌}
+use mathlib.Core.Path.{◌∙◌}
 use native.Mathlib.Omega.{arith}
 use Rattle.std.proofs.lemmas.Result.{err_from_is_err_and}
 use Rattle.word.specs.Setting.{limits, at_most}
 use Rattle.word.specs.Map.Laws.{changes_self, cleared}
 use Rattle.word.specs.Met.{part_found, part_lost}
-use Rattle.word.specs.Looking.{clean_figures}
 use Rattle.word.specs.Correcting.{message_front}
-use Rattle.word.specs.declared.DecodeError.TheVariants.{BeyondReach}
-use borrow.Author.Rules.{rules}
 use Rattle.word.proofs.to_part.Goals as goal
 
-pub returns-then-seen : goal.returns-then-seen
-returns-then-seen c =
+pub returns-in-Lost : goal.returns-in-Lost
+returns-in-Lost c =
     let pre = c.requires in
-    part_lost _ _ _ _ _ pre.1 pre.2 pre.0.fine _ (pre.0.lost c.if-seen.true) (cleared _ c.args.map.now c.args.received.now _ c.fill.ensures pre.2 pre.0.fine.size)
+    part_lost _ _ _ _ _ pre.1 pre.2 pre.0.fine _ (rw c.in-Lost.is at pre.0.told) (cleared _ c.args.map.now c.args.received.now _ c.fill.ensures pre.2 pre.0.fine.size)
 
-pub copy-requires : goal.copy-requires
-copy-requires c = let pre = c.requires in omega (arith, pre.1, pre.0.fine.size)
-
-pub clean_figures-requires : goal.clean_figures-requires
-clean_figures-requires c =
-    let pre = c.requires.0 in
-    omega (arith, (pre.measured c.if-seen.false).few, (limits _ pre.fine.setting).high)
-
-pub returns-then-seen-2 : goal.returns-then-seen-2
-returns-then-seen-2 c =
+pub returns-in-Clean : goal.returns-in-Clean
+returns-in-Clean c =
     let pre = c.requires in
-    let found = c.if-seen.false in
+    let told = rw c.in-Clean.is at pre.0.told in
     rw (c.copy.ensures, pre.1)
-    (part_found _ _ _ _ _ pre.1 pre.2 pre.0.fine _ _ _ (pre.0.clean found c.if-seen-2.true) (clean_figures _ _ _ _ _ (pre.0.measured found) _ c.clean_figures.ensures)
-    (cleared _ c.args.map.now c.args.received.now _ c.fill.ensures pre.2 pre.0.fine.size ∙ changes_self _))
+    (part_found _ _ _ _ _ pre.1 pre.2 pre.0.fine _ _ _ told.0 told.1 (cleared _ c.args.map.now c.args.received.now _ c.fill.ensures pre.2 pre.0.fine.size ∙ changes_self _))
 
-pub answer-requires : goal.answer-requires
-answer-requires c =
+pub returns-in_err-figures-in-Damaged : goal.returns-in_err-figures-in-Damaged
+returns-in_err-figures-in-Damaged c =
     let pre = c.requires in
-    (pre.0.measured c.if-seen.false, c.work_space-work.ensures, search rules)
-
-pub returns-in_err-figures : goal.returns-in_err-figures
-returns-in_err-figures c =
-    let pre = c.requires in
-    let told = c.in_err-figures.ensures in
-    let no = c.answer.ensures.refused told.ok_part in
-    let beyond : c.in_err-figures.field-0.0 ≡ BeyondReach = (let v = rw told.ok_part at told.value in cc) in
+    let no = c.answer.ensures.refused _ c.in_err-figures-in-Damaged.was in
     let p = err_from_is_err_and c.from_residual.result c.from_residual.ensures.1 in
-    rw (p.1, p.2, beyond) (part_lost _ _ _ _ _ pre.1 pre.2 pre.0.fine _ no.0 (no.1 ∙ cleared _ c.args.map.now c.args.received.now _ c.fill.ensures pre.2 pre.0.fine.size))
+    rw (p.1, p.2, no.0) (part_lost _ _ _ _ _ pre.1 pre.2 pre.0.fine _ no.1 (no.2 ∙ cleared _ c.args.map.now c.args.received.now _ c.fill.ensures pre.2 pre.0.fine.size))
 
-pub slice_bounds-copy-end : goal.slice_bounds-copy-end
-slice_bounds-copy-end c = sym c.answer.ensures.size
-
-pub copy-requires-2 : goal.copy-requires-2
-copy-requires-2 c =
+pub copy-requires-in-Damaged : goal.copy-requires-in-Damaged
+copy-requires-in-Damaged c =
     let pre = c.requires in
     omega (arith, pre.1, pre.0.fine.size, at_most _ (limits _ pre.0.fine.setting), c.answer.ensures.size)
 
-pub returns : goal.returns
-returns c =
+pub returns-in_ok-figures-in-Damaged : goal.returns-in_ok-figures-in-Damaged
+returns-in_ok-figures-in-Damaged c =
     let pre = c.requires in
-    let yes = c.answer.ensures.done c.in_ok-figures.figures c.in_ok-figures.ensures.ok_part in
-    rw (c.copy-2.ensures, pre.1, ← message_front _ _ _) (part_found _ _ _ _ _ pre.1 pre.2 pre.0.fine _ _ _ yes.1 yes.0 yes.2)
+    let yes = c.answer.ensures.done _ c.in_ok-figures-in-Damaged.was in
+    rw (c.copy-in-Damaged.ensures, pre.1, ← message_front _ _ _) (part_found _ _ _ _ _ pre.1 pre.2 pre.0.fine _ _ _ yes.1 yes.0 yes.2)

@@ -24,6 +24,6 @@ returns c =
     let bytes : T (below 256 word) = below_all 256 word λ i l. omega (arith, (c.shared_slice_known-1.given i).fits) in
     let front = rw c.requires.1 at c.copy.ensures in
     let whole : take 28 (take 28 word) ≡ take 28 word = take_all 28 (take 28 word) (omega (arith, length-take 28 word)) in
-    let promised = rw (c.inner_code.ensures, c.no_marks-marks.ensures, front, whole) at c.decode_part.ensures in
+    let promised = rw (c.inner_code.ensures, c.filled-marks.ensures, front, whole) at c.decode_part.ensures in
     let (mark, passed, map) = inner_given word c.requires.0 bytes _ c.requires.2 _ _ _ promised in
     (c.mark_of.ensures ∙ mark, passed, map)

@@ -1,7 +1,5 @@
 -- `fresh_sender` meets its contract: a memory of another length is left alone, and one of 1512 bytes filled with 0.
-use mathlib.Core.Path.{◌≡◌, refl, ap, ◌∙◌}
-use Prim.Native.Nat.{ℕ}
-use lib.ListN.{length, replicate}
+use Rattle.std.proofs.Common.{◌≡◌, refl, ap, ◌∙◌, ℕ, length, replicate}
 use Rattle.algebra.specs.Refusal.{need_yes, need_no}
 use Rattle.cross.specs.Cross.{size_refusal}
 use Rattle.cross.proofs.sender.fresh_sender.Goals as goal
@@ -15,5 +13,5 @@ pub returns : goal.returns
 returns c =
     let h = c.if-memory-ne1512.false in
     let e : 0 ≡ size_refusal (length c.args.memory.now) = need_yes _ _ _ 0 h refl in
-    let zeros = c.fill.ensures ∙ ap (λ (z : ℕ). replicate z 0) h in
+    let zeros = c.fill.ensures.after (λ y e. e) ∙ ap (λ (z : ℕ). replicate z 0) h in
     record { outcome = rw (← e, zeros) refl }

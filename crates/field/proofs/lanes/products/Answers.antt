@@ -1,24 +1,12 @@
--- `field::lanes::products` meets its contract. The loop's invariant: the first i entries are the products. Either branch gives the product
--- of the field that m names, since a product depends on m by its width alone.
-use native.Mathlib.Omega.{arith}
-use borrow.Author.Rules.{rules}
-use Rattle.algebra.specs.Lists.{filled_none}
+-- `field::lanes::products` meets its contract: a product depends on m by its width alone.
 use Rattle.field.specs.Elements.{wide, wide_3, wide_8}
-use Rattle.field.specs.Lanes.{products_more, products_all}
+use Rattle.field.specs.Lanes.{products_wide}
 use Rattle.field.proofs.lanes.products.Goals as goal
-use Rattle.field.proofs.lanes.products.Goals.{then-m-eq3, else-m-eq3}
 
-pub loop-i-init : goal.loop-i-init
-loop-i-init c = (omega arith, filled_none 16 _ _ (search rules))
-
-pub loop-i-preserved : goal.loop-i-preserved
+pub returns-then-m-eq3 : goal.returns-then-m-eq3
 unfolding wide
-loop-i-preserved c =
-    let f = c.loop-i.invariant.1 in
-    elim c.if-m-eq3.branch [
-      | then-m-eq3 w ↦ (omega arith, rw w.products-is (products_more c.args.m 3 _ _ _ _ _ (wide_3 _ w.if-m-eq3.true) (omega arith) w.times.ensures f))
-      | else-m-eq3 w ↦ (omega arith, rw w.products-is (products_more c.args.m 8 _ _ _ _ _ (wide_8 _ w.if-m-eq3.false) (omega arith) w.times-else-m-eq3.ensures f))
-    ]
+returns-then-m-eq3 c = products_wide _ 3 _ _ _ (wide_3 _ c.if-m-eq3.true) c.by_lanes.ensures
 
 pub returns : goal.returns
-returns c = products_all _ _ _ _ _ (omega arith) c.loop-i.invariant.1
+unfolding wide
+returns c = products_wide _ 8 _ _ _ (wide_8 _ c.if-m-eq3.false) c.by_lanes-2.ensures

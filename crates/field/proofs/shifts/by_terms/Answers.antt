@@ -1,18 +1,22 @@
 -- `field::shifts::by_terms` meets its contract. The loop's invariant (`Terms`): what is summed, and the product that is left to add, are
--- the whole product. The measure is the number of turns left.
+-- the whole product.
+use mathlib.Core.Path.{◌≡◌}
+use Prim.Native.Nat.{◌+◌, ◌-◌}
 use native.Mathlib.Omega.{arith}
 use borrow.Author.Rules.{rules}
 use Rattle.field.proofs.Terms.{bit_mul_le, terms_start, terms_turn, terms_end}
 use Rattle.field.proofs.shifts.by_terms.Goals as goal
 
-pub loop-left-init : goal.loop-left-init
-loop-left-init c = terms_start _ _ _ _ _ _ (search rules) (search rules) c.low-a.ensures c.low-b.ensures
+pub loop-term-init : goal.loop-term-init
+loop-term-init g c = terms_start _ _ _ _ _ _ (search rules) (search rules) c.low-a.ensures c.low-b.ensures
 
 pub overflow_mul-sum : goal.overflow_mul-sum
-overflow_mul-sum c = omega (arith, bit_mul_le c.loop-left.a c.loop-left.b, c.loop-left.invariant.byte)
+overflow_mul-sum g c = record { fits = omega (arith, bit_mul_le c.loop-term.a c.loop-term.b, c.loop-term.invariant.byte) }
 
-pub loop-left-preserved : goal.loop-left-preserved
-loop-left-preserved c = terms_turn _ _ _ _ _ _ _ _ c.loop-left.invariant (search rules) (search rules) c.double-b.ensures
+pub loop-term-preserved : goal.loop-term-preserved
+loop-term-preserved g c =
+    let e : 8 - (c.loop-term.term + 1) ≡ 8 - c.loop-term.term - 1 = omega arith in
+    rw e (terms_turn _ _ _ _ _ _ _ _ c.loop-term.invariant (omega arith) (search rules) c.double-b.ensures)
 
 pub returns : goal.returns
-returns c = terms_end _ _ _ _ _ _ _ c.loop-left.invariant (omega arith)
+returns g c = terms_end _ _ _ _ _ _ _ c.loop-term.invariant (omega arith)

@@ -1,18 +1,16 @@
 -- `gather` meets its contract: refused, it leaves the words alone; else the slots are n rows of J, and transposed.
 use Rattle.std.proofs.Common.{refl, ◌∙◌, ◌<◌, arith}
-use Rattle.std.proofs.lemmas.Result.{err_from_is_err_and}
 use Rattle.std.proofs.Math.Nat.{mul_comm}
 use Rattle.algebra.specs.Refusal.{kept}
-use Rattle.interleave.specs.Numbers.{block_error, passed, failed}
+use Rattle.interleave.specs.Numbers.{block_error, passed, refused}
 use Rattle.interleave.specs.Block.{gathering, block_fine}
 use Rattle.interleave.proofs.block.gather.Goals as goal
 
 pub returns-in_err-check_block : goal.returns-in_err-check_block
 unfolding gathering
 returns-in_err-check_block c =
-    let p = err_from_is_err_and c.from_residual.result c.from_residual.ensures.1 in
-    let (ne, same) = failed block_error _ _ _ c.in_err-check_block.ensures in
-    record { outcome = rw (p.1, p.2, same) (kept _ _ _ ne) }
+    let (ne, same) = refused block_error _ _ _ c.from_residual.ensures.1 c.in_err-check_block.ensures in
+    record { outcome = rw same (kept _ _ _ ne) }
 
 pub transpose-requires : goal.transpose-requires
 transpose-requires c =

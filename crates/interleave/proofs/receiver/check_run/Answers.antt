@@ -1,21 +1,15 @@
 -- `check_run` meets its contract: the line and all lengths go first, then the marks of the memory, then the marks handed in.
-use Rattle.std.proofs.Common.{◌≡◌, Bool, false, T, ℕ, ap, refl}
-use Rattle.std.proofs.lemmas.Result.{err_from_is_err_and}
+use Rattle.std.proofs.Common.{ℕ, ap, refl}
 use Rattle.algebra.specs.Refusal.{need_yes, need_no, first_none}
-use Rattle.interleave.specs.Numbers.{answered, line_error, passed, first_refused}
+use Rattle.interleave.specs.Numbers.{answered, line_error, passed, first_refused, fails}
 use Rattle.interleave.specs.Setting.{receive_refusal}
 use Rattle.interleave.proofs.receiver.check_run.Goals as goal
 use Rattle.interleave.proofs.receiver.check_run.Goals.{then-not-all_below-via-then-not-all_below, then-not-all_below-via-else-not-all_below+then-not-all_below-2}
 
--- marks that fail the test of the code fail that of the definition
-fails : (r b : Bool) → r ≡ b → r ≡ false → ¬ T b
-fails r b e h t = let g = rw (← e, h) at t in g
-
 pub returns-in_err-check_receiver : goal.returns-in_err-check_receiver
 unfolding receive_refusal
 returns-in_err-check_receiver c =
-    let p = err_from_is_err_and c.from_residual.result c.from_residual.ensures.1 in
-    rw (p.1, p.2) (first_refused line_error _ _ _ _ c.in_err-check_receiver.ensures)
+    first_refused line_error _ _ _ _ c.from_residual.ensures.1 c.in_err-check_receiver.ensures
 
 pub returns-then-marks-many : goal.returns-then-marks-many
 unfolding receive_refusal

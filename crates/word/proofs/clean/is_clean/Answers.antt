@@ -15,7 +15,7 @@ returns-in_err-check_word c =
 pub prepare-requires : goal.prepare-requires
 prepare-requires c =
     let limit = limits _ (word_checked _ _ (sym c.in_ok-check_word.ensures)).setting in
-    (limit.start, limit.high, c.no_table-low.ensures, c.no_table-high.ensures)
+    (limit.start, limit.high)
 
 pub is_clean_by-requires : goal.is_clean_by-requires
 is_clean_by-requires c = (stands_alone _ _ (word_checked _ _ (sym c.in_ok-check_word.ensures)), c.prepare.ensures)

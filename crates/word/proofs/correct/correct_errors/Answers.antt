@@ -26,11 +26,6 @@ count_errors-e-requires c =
     let k = c.requires.0.checked in
     (omega (arith, k.size, at_most _ (limits _ k.setting)), k.marks_size ∙ sym k.size, c.correct_places-rest.ensures.are_corrected.size ∙ sym k.size)
 
-pub overflow_mul-e : goal.overflow_mul-e
-overflow_mul-e c =
-    let k = c.requires.0.checked in
-    omega (arith, c.count_errors-e.ensures.1, k.size, at_most _ (limits _ k.setting))
-
 pub overflow_add-e : goal.overflow_add-e
 overflow_add-e c =
     let k = c.requires.0 in
@@ -47,8 +42,8 @@ count_bits-requires c =
     let k = c.requires.0.checked in
     (omega (arith, k.size, at_most _ (limits _ k.setting)), c.correct_places-rest.ensures.are_corrected.size ∙ sym k.size)
 
-pub found-requires : goal.found-requires
-found-requires c =
+pub figures-requires : goal.figures-requires
+figures-requires c =
     let k = c.requires.0 in
     let few = at_most _ (limits _ k.checked.setting) in
     (omega (arith, c.count_errors-e.ensures.1, k.checked.size, few), omega (arith, k.few, (limits _ k.checked.setting).high), omega (arith, c.count_bits.ensures.1, k.checked.size, few))
@@ -57,4 +52,4 @@ pub returns : goal.returns
 returns c =
     let k = c.requires.0 in
     found_corrected _ _ _ k.checked _ k.counted k.few _ k.measured _ _ (rw c.requires.1 at c.correct_places-rest.ensures) _
-    c.count_errors-e.ensures.0 (omega arith) (sym c.all_zero.ensures ∙ not-false _ c.if-not-all_zero.false-raw) _ c.count_bits.ensures.0 _ c.found.ensures
+    c.count_errors-e.ensures.0 (omega arith) (sym c.all_zero.ensures ∙ not-false _ c.if-not-all_zero.false-raw) _ c.count_bits.ensures.0 _ c.figures.ensures

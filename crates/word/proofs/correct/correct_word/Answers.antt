@@ -1,15 +1,16 @@
 -- `correct_word` meets its contract: the power sums of what is left over are the word's own, and `correct_errors` promises the rest.
+use mathlib.Core.Path.{sym}
 use native.Mathlib.Omega.{arith}
+use lib.Seq.{length-take-le}
 use Rattle.word.specs.Setting.{limits}
-use Rattle.word.specs.Looking.{front_of}
 use Rattle.word.specs.Correcting.{copied, summed}
 use Rattle.word.proofs.correct.correct_word.Goals as goal
 
-pub copy-requires : goal.copy-requires
-copy-requires c = omega (arith, c.requires.0.checked.size, c.requires.1)
+pub slice_bounds-rest-end : goal.slice_bounds-rest-end
+slice_bounds-rest-end c = omega (arith, (limits _ c.requires.0.checked.setting).high)
 
 pub slice_bounds-syndromes-end : goal.slice_bounds-syndromes-end
-slice_bounds-syndromes-end c = omega (arith, (limits _ c.requires.0.checked.setting).high)
+slice_bounds-syndromes-end c = sym (length-take-le _ _ (omega (arith, (limits _ c.requires.0.checked.setting).high)))
 
 pub syndromes-sums-requires : goal.syndromes-sums-requires
 syndromes-sums-requires c = (limits _ c.requires.0.checked.setting).start
@@ -17,6 +18,6 @@ syndromes-sums-requires c = (limits _ c.requires.0.checked.setting).start
 pub correct_errors-requires : goal.correct_errors-requires
 correct_errors-requires c =
     let k = c.requires.0 in (
-      summed _ _ _ _ _ _ k (rw front_of at c.syndromes-sums.ensures),
+      summed _ _ _ _ _ _ k c.syndromes-sums.ensures,
       copied c.args.out.now c.args.received.now _ _ c.requires.1 k.checked.size c.copy.ensures,
     )

@@ -10,8 +10,5 @@ use Rattle.word.proofs.count.bits_at.Goals as goal
 few : (x y : ℕ) → x < 256 → y < 256 → ones (bit_xor x y) ≤ 8
 few x y h k = ones-le 8 _ (xor_lt 8 x y h k)
 
-pub overflow_cast-result : goal.overflow_cast-result
-overflow_cast-result c = omega (arith, few c.args.x c.args.y (omega arith) (omega arith))
-
 pub returns : goal.returns
 returns c = (unfold ◌⊕◌ in refl, omega (arith, few c.args.x c.args.y (omega arith) (omega arith)))

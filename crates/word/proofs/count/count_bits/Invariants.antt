@@ -1,13 +1,13 @@
--- `figures::count_bits` meets its contract. The loop's invariant: `sum` is the sum over the places before `i`, each at most 8.
+-- `count::count_bits` meets its contract. The loop's invariant: `sum` and the bits of what is still to come are those of the two words.
 use mathlib.Core.Path.{◌≡◌}
-use Prim.Native.Nat.{◌-◌, ◌*◌, ◌≤◌}
+use Prim.Native.Nat.{◌+◌, ◌*◌, ◌≤◌}
 use lib.ListN.{length}
-use Rattle.algebra.specs.Tests.{total}
-use Rattle.word.specs.Figures.{bits_at}
+use Rattle.word.specs.Figures.{bits}
 use Rattle.word.proofs.count.count_bits.Given as goal
 
-abbrev pub invariant-loop-i : goal.invariant-loop-i
-invariant-loop-i l = (l.i ≤ length l.received) × (l.sum ≤ 8 * l.i) × (l.sum ≡ total l.i (bits_at l.received l.word))
-
-abbrev pub decreases-loop-i : goal.decreases-loop-i
-decreases-loop-i l = length l.received - l.i
+abbrev pub invariant-loop-x : goal.invariant-loop-x
+invariant-loop-x l = record {
+  ahead : l.sum + bits l.x-iterator.a.rest.now l.x-iterator.b.rest.now ≡ bits l.received l.word;
+  few : l.sum + 8 * length l.x-iterator.a.rest.now ≤ 8 * length l.received;
+  beside : length l.x-iterator.b.rest.now ≡ length l.x-iterator.a.rest.now;
+}

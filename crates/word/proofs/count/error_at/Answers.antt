@@ -1,14 +1,15 @@
--- `figures::error_at` meets its contract: each way out is one law of the definition.
-use mathlib.Core.Path.{sym}
+-- `count::error_at` meets its contract: the test is the specification's, as a number.
+use mathlib.Core.Path.{refl}
 use native.Mathlib.Omega.{arith}
-use Rattle.word.specs.Figures.{error_of_marked, error_of_same, error_of_wrong}
+use Rattle.std.proofs.Common.{eq-eqb, ne_eqb}
+use Rattle.word.specs.Figures.{error_of, bit_of}
 use Rattle.word.proofs.count.error_at.Goals as goal
-
-pub returns-then-mark-ne0 : goal.returns-then-mark-ne0
-returns-then-mark-ne0 c = (sym (error_of_marked _ _ _ c.if-mark-ne0.true), omega arith)
-
-pub returns-then-x-y : goal.returns-then-x-y
-returns-then-x-y c = (sym (error_of_same _ _ _ c.if-x-y.true), omega arith)
+use Rattle.word.proofs.count.error_at.Goals.{then-mark-eq0, else-mark-eq0}
 
 pub returns : goal.returns
-returns c = (sym (error_of_wrong _ _ _ c.if-mark-ne0.false c.if-x-y.false), omega arith)
+unfolding error_of
+returns c =
+    elim c.if-mark-eq0.branch [
+      | then-mark-eq0 w ↦ rw (c.from.ensures, w.from-is, eq-eqb _ _ w.if-mark-eq0.true) (bit_of _)
+      | else-mark-eq0 w ↦ rw (c.from.ensures, w.from-is, ne_eqb _ _ w.if-mark-eq0.false) (refl, omega arith)
+    ]

@@ -5,6 +5,7 @@ use Rattle.algebra.specs.Refusal.{need_yes, need_no, test_yes, test_no}
 use Rattle.word.specs.Setting.{has_room, own_symbols}
 use Rattle.word.specs.Answers.{encode_refusal}
 use Rattle.word.proofs.limits.check_message.Goals as goal
+use Rattle.word.proofs.limits.check_message.Goals.{then-message-s-via-then-message-s, then-message-s-via-else-message-s+then-word-s}
 
 pub returns-then-not-is_allowed : goal.returns-then-not-is_allowed
 unfolding encode_refusal
@@ -16,13 +17,10 @@ overflow_sub-s c = omega (arith, has_room _ (test_yes _ _ c.is_allowed.ensures c
 pub returns-then-message-s : goal.returns-then-message-s
 unfolding encode_refusal
 returns-then-message-s c =
-    need_yes _ _ _ _ (test_yes _ _ c.is_allowed.ensures c.if-not-is_allowed.false-raw) (need_no _ _ _ c.if-message-s.true)
-
-pub returns-then-word-s : goal.returns-then-word-s
-unfolding encode_refusal
-returns-then-word-s c =
-    let ok = test_yes _ _ c.is_allowed.ensures c.if-not-is_allowed.false-raw in
-    need_yes _ _ _ _ ok (need_yes _ _ _ _ c.if-message-s.false (need_no _ _ _ c.if-word-s.true))
+    need_yes _ _ _ _ (test_yes _ _ c.is_allowed.ensures c.if-not-is_allowed.false-raw) (elim c.then-message-s.branch [
+      | then-message-s-via-then-message-s w ↦ need_no _ _ _ w.if-message-s.true
+      | then-message-s-via-else-message-s+then-word-s w ↦ need_yes _ _ _ _ w.if-message-s.false (need_no _ _ _ w.if-word-s.true)
+    ])
 
 pub returns-then-not-all_below : goal.returns-then-not-all_below
 unfolding encode_refusal

@@ -1,29 +1,33 @@
--- `code::limits::is_allowed` meets its contract: each return is one limit, broken or, at the end, all kept.
-use mathlib.Core.Path.{sym, ◌∙◌}
-use native.Mathlib.Omega.{arith}
-use borrow.Author.Tests.{not-true, not-false}
-use Rattle.word.specs.Setting.{allowed_no, allowed_field, allowed_long, allowed_all}
+-- `limits::is_allowed` meets its contract: each test of the chain is one of the specification's.
+use mathlib.Core.Path.{◌≡◌, sym, ◌∙◌}
+use mathlib.Core.Bool.{true}
+use lib.Dec.{ltb}
+use Rattle.std.proofs.Common.{le-leb, lt-ltb}
+use Rattle.word.specs.Setting.{allowed_by, allowed_no, named}
 use Rattle.word.proofs.limits.is_allowed.Goals as goal
+use Rattle.word.proofs.limits.is_allowed.Goals.{then-is_field, else-is_field, then-s-ge2, else-s-ge2, then-s-le16, else-s-le16, then-s, else-s}
 
-pub returns-then-not-is_field : goal.returns-then-not-is_field
-returns-then-not-is_field c = allowed_field _ (sym c.is_field.ensures ∙ not-true _ c.if-not-is_field.true-raw)
+pub returns-then-s-symbols_of : goal.returns-then-s-symbols_of
+returns-then-s-symbols_of c =
+    elim c.if-s.branch [
+      | then-s w ↦
+          let (f, low, high, room) = w.if-s.true in
+          rw (allowed_by c.args.s w.symbols_of.result w.symbols_of.ensures, sym c.is_field.ensures ∙ f, le-leb _ _ low, le-leb _ _ high, lt-ltb _ _ room, sym w.value-is ∙ c.if-s-symbols_of.true)
+      | else-s w ↦ absurd (cc)
+    ]
 
-pub returns-then-s-lt2 : goal.returns-then-s-lt2
-returns-then-s-lt2 c = allowed_no _ λ a. omega arith
-
-pub returns-then-s-gt16 : goal.returns-then-s-gt16
-returns-then-s-gt16 c = allowed_no _ λ a. omega arith
-
-pub returns-then-s : goal.returns-then-s
-returns-then-s c = allowed_no _ λ a. omega arith
-
-pub returns-then-s-gt1 : goal.returns-then-s-gt1
-returns-then-s-gt1 c = allowed_no _ λ a. omega arith
-
-pub returns-then-symbols_of-s : goal.returns-then-symbols_of-s
-returns-then-symbols_of-s c = allowed_long _ _ c.symbols_of.ensures (omega arith)
-
-pub returns : goal.returns
-returns c =
-    allowed_all _ _ (sym c.is_field.ensures ∙ not-false _ c.if-not-is_field.false-raw) c.symbols_of.ensures
-    (omega arith) (omega arith) (omega arith) (omega arith) (omega arith)
+pub returns-else-s-symbols_of : goal.returns-else-s-symbols_of
+returns-else-s-symbols_of c = c.if-s-symbols_of.false ∙ allowed_no c.args.s λ a.
+    elim c.if-s.branch [
+      | then-s w ↦ let z : ltb c.args.s.n w.symbols_of.result ≡ true = lt-ltb _ _ (rw (w.symbols_of.ensures, named _ a.field) a.short) in cc
+      | else-s w ↦ elim c.if-s-le16.branch [
+        | then-s-le16 v ↦ let z = lt-ltb _ _ a.room in cc
+        | else-s-le16 v ↦ elim c.if-s-ge2.branch [
+          | then-s-ge2 u ↦ let z = le-leb _ _ a.high in cc
+          | else-s-ge2 u ↦ elim c.if-is_field.branch [
+            | then-is_field x ↦ let z = le-leb _ _ a.low in cc
+            | else-is_field x ↦ rw (sym c.is_field.ensures ∙ x.if-is_field.false) at a.field
+          ]
+        ]
+      ]
+    ]

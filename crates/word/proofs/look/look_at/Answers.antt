@@ -1,30 +1,57 @@
--- `look_at` meets its contract: more marks than check symbols are one law of `Looked`, and the comparison the other.
+-- `look_at` meets its contract: more marks than check symbols are one law of `Looked`; message and check symbols are the word, and what it leaves over are the others.
+use mathlib.Core.Path.{◌≡◌, sym, ap, ◌∙◌, subst}
+use mathlib.Core.List.{List, ◌++◌}
+use Prim.Native.Nat.{ℕ, ◌-◌, ◌≤◌}
 use native.Mathlib.Omega.{arith}
+use lib.ListN.{length, take, drop, length-drop, take-append-drop}
+use lib.Seq.{length-take-le, take-length}
+use Rattle.algebra.specs.Lists.{Filled}
+use Rattle.checks.specs.Checks.{Checks}
+use Rattle.checks.specs.Left.{LeftOver, Padded, left_at, left_over}
 use Rattle.word.specs.Setting.{limits, at_most}
-use Rattle.word.specs.Looking.{front_of, looked_lost, looked_at}
+use Rattle.word.specs.Looking.{looked_lost, looked_clean, looked_damaged}
+use borrow.Author.Rules.{rules}
 use Rattle.word.proofs.look.look_at.Goals as goal
+
+-- a word is its first k symbols and what is behind them
+module _ (m b r n : ℕ) (w : List ℕ) (room : r ≤ n) (size : length w ≡ n) where
+  abbrev k : ℕ
+  k = n - r
+
+  tail-size : length (take (length w - k) (drop k w)) ≡ r
+  tail-size = length-take-le (length w - k) (drop k w) (omega (arith, length-drop k w)) ∙ omega arith
+
+  cut : take k w ++ take (length w - k) (drop k w) ≡ w
+  cut = ap (λ (v : List ℕ). take k w ++ v) (ap (λ (i : ℕ). take i (drop k w)) (sym (length-drop k w)) ∙ take-length (drop k w)) ∙ take-append-drop k w
+
+  left_cut : (checks received rest : List ℕ) → r ≤ 16 → length checks ≡ 16 → Checks m b r (take k w) checks → Padded (take (length w - k) (drop k w)) (length (take (length w - k) (drop k w))) received
+      → Filled 16 (left_at checks received) 16 rest
+      → LeftOver m b r w (take r rest)
+  left_cut checks received rest few sixteen c p h =
+      subst (λ (v : List ℕ). LeftOver m b r v (take r rest)) cut (left_over m b r (take k w) (take (length w - k) (drop k w)) checks received rest few tail-size sixteen c (rw tail-size at p) h)
 
 pub count_marks-f-requires : goal.count_marks-f-requires
 count_marks-f-requires c =
-    let k = c.requires in
+    let k = c.requires.0 in
     (omega (arith, k.marks_size, at_most _ (limits _ k.setting)), k.marks_small)
 
 pub returns-then-s-f : goal.returns-then-s-f
-returns-then-s-f c = looked_lost _ _ _ c.requires _ c.count_marks-f.ensures.0 _ c.if-s-f.true c.overmarked.ensures
+returns-then-s-f c = looked_lost _ _ _ c.requires.0 _ c.count_marks-f.ensures.0 c.if-s-f.true
 
 pub overflow_sub-k : goal.overflow_sub-k
-overflow_sub-k c = omega (arith, (limits _ c.requires.setting).room)
+overflow_sub-k c = omega (arith, (limits _ c.requires.0.setting).room)
 
-pub slice_bounds-check_symbols-end : goal.slice_bounds-check_symbols-end
-slice_bounds-check_symbols-end c = omega (arith, c.requires.size)
-
-pub check_symbols-checks-requires : goal.check_symbols-checks-requires
-check_symbols-checks-requires c = let k = limits _ c.requires.setting in (k.start, k.high)
-
-pub compared-requires : goal.compared-requires
-compared-requires c =
-    let k = c.requires in
-    ((limits _ k.setting).high, omega (arith, (limits _ k.setting).room), k.size, rw front_of at c.check_symbols-checks.ensures)
+pub returns-then-all_below : goal.returns-then-all_below
+returns-then-all_below c =
+    let given = c.requires.0 in
+    let limit = limits _ given.setting in
+    looked_clean _ _ _ given _ c.count_marks-f.ensures.0 (omega arith) _
+    (left_cut _ _ _ _ _ (omega (arith, limit.room)) given.size _ _ _ limit.high (search rules) (c.check_symbols_by-checks.ensures.each _ _ c.requires.1) c.padded.ensures c.left_over-rest.ensures)
+    (sym c.if-all_below.true ∙ c.all_below.ensures) _ c.figures.ensures
 
 pub returns : goal.returns
-returns c = looked_at _ _ _ c.requires _ c.count_marks-f.ensures.0 _ (omega arith) c.compared.ensures
+returns c =
+    let given = c.requires.0 in
+    let limit = limits _ given.setting in
+    looked_damaged _ _ _ given _ c.count_marks-f.ensures.0 (omega arith) _
+    (left_cut _ _ _ _ _ (omega (arith, limit.room)) given.size _ _ _ limit.high (search rules) (c.check_symbols_by-checks.ensures.each _ _ c.requires.1) c.padded.ensures c.left_over-rest.ensures)

@@ -1,17 +1,9 @@
 -- `encode_by` meets its contract: the register's check symbols complete the message.
 use mathlib.Core.Path.{◌≡◌, sym}
-use native.Mathlib.Omega.{arith}
 use lib.ListN.{length}
-use Rattle.word.specs.Setting.{limits}
 use Rattle.word.proofs.Encoding.{encoded_front}
 use borrow.Author.Rules.{rules}
 use Rattle.word.proofs.tables.encode_by.Goals as goal
-
-pub join-requires : goal.join-requires
-join-requires c =
-    let given = c.requires.0 in
-    let size : length c.check_symbols_by-checks.result ≡ 16 = search rules in
-    omega (arith, (limits _ given.setting).high, given.size, given.word_size)
 
 pub returns : goal.returns
 returns c =

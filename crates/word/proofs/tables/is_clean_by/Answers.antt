@@ -10,9 +10,6 @@ use Rattle.word.proofs.tables.is_clean_by.Goals as goal
 pub overflow_sub-k : goal.overflow_sub-k
 overflow_sub-k c = omega (arith, (limits _ c.requires.0.setting).room)
 
-pub check_symbols_of-checks-requires : goal.check_symbols_of-checks-requires
-check_symbols_of-checks-requires c = record { each = λ i l. c.requires.0.within i (omega arith) }
-
 pub agree-requires : goal.agree-requires
 agree-requires c =
     let given = c.requires.0 in

@@ -1,6 +1,5 @@
 -- `Line::check_receiver` meets its contract: the line's refusal goes first, then the length of the marks.
 use Rattle.std.proofs.Common.{ℕ, ap, refl}
-use Rattle.std.proofs.lemmas.Result.{err_from_is_err_and}
 use Rattle.algebra.specs.Refusal.{need_yes, need_no, first_none}
 use Rattle.interleave.specs.Numbers.{answered, line_error, passed, first_refused}
 use Rattle.interleave.specs.Setting.{receiver_refusal}
@@ -9,8 +8,7 @@ use Rattle.interleave.proofs.line.Line.check_receiver.Goals as goal
 pub returns-in_err-check : goal.returns-in_err-check
 unfolding receiver_refusal
 returns-in_err-check c =
-    let p = err_from_is_err_and c.from_residual.result c.from_residual.ensures.1 in
-    rw (p.1, p.2) (first_refused line_error _ _ _ _ c.in_err-check.ensures)
+    first_refused line_error _ _ _ _ c.from_residual.ensures.1 c.in_err-check.ensures
 
 pub returns-then-marks-length : goal.returns-then-marks-length
 unfolding receiver_refusal
