@@ -1,9 +1,11 @@
 -- The words of a received frame: one that is decoded, and the loop that decodes them into their parts of the area.
 -- Assumes nothing.
-use Rattle.std.specs.Prelude.{◌≡◌, Bool, true, false, Result, List, ℕ, zero, suc, ◌+◌, ◌*◌, ◌≤◌, ◌<◌, set, take, T, eqb, if◌then◌else◌}
+use Rattle.std.specs.Prelude.{◌≡◌, true, false, Result, Ok, Err, Option, Some, None, List, ℕ, zero, suc, ◌+◌, ◌*◌, ◌≤◌, ◌<◌, set, take, T, if◌then◌else◌}
+use Rattle.std.specs.Result.{result_ok}
 use Rattle.std.proofs.Math.Path.{refl, sym, ap}
 use Rattle.std.proofs.Common.{◌∙◌, not-suc-le-zero, mul-le-mul_right, arith, lt-ltb, le-ltb, below_more, length-set, ext_get_or, length-take-le, get_or-take, get_or-set_same, get_or-set_other}
-use Rattle.std.proofs.Math.Option.{Option, some, none}
+use Rattle.std.proofs.Math.Option as Math
+use Rattle.std.proofs.Math.Option.{some, none}
 use Rattle.std.proofs.Math.Decide.{dec_lt}
 use Rattle.std.proofs.Math.ListN.{length, get_or, replicate, length-replicate}
 use Rattle.std.proofs.Math.Dec.{ltb}
@@ -12,7 +14,7 @@ use Rattle.algebra.specs.Lists.{tabulated, within, put_part, put_part_size, Writ
 use Rattle.word.specs.Setting.{message_size, allowed_yes}
 use Rattle.word.specs.Map.{changes, unchanged}
 use Rattle.word.specs.Map.Laws.{length_changes, changes_no_bits}
-use Rattle.word.specs.Answers.{number_of, figures_of, no_figures, figures}
+use Rattle.word.specs.Answers.{no_figures, figures}
 use Rattle.word.specs.Promises.{DecodesPart, decodes_part_once}
 use Rattle.word.specs.Refusals.{Checked}
 use Rattle.word.specs.Met.{part_found, part_lost}
@@ -21,25 +23,12 @@ use Rattle.word.specs.declared.DecodeError.{DecodeError}
 use Rattle.interleave.specs.Slots.{TakesWord, PutsWord, word_in, length_word, word_below}
 use Rattle.frame.specs.Frame.{word_setting, area_size, slot_count, is_none, received_word, received_marks, corrected_word, message_of, figures_at, changes_at, beyond, area_received, figures_received, map_received}
 use Rattle.frame.specs.Frame.Limits.{FrameAllowed}
-use Rattle.frame.specs.Mapping.{Blank, Spare, Mapping, zeros_at, mapping_none, mapping_more, mapping_all}
+use Rattle.frame.specs.Mapping.{Blank, Spare, Mapping, zeros_at, put_none, mapping_none, mapping_more, mapping_all}
 use Rattle.frame.specs.declared.setting.Framing.{Framing}
-use Rattle.frame.specs.declared.receiver.Found.{Found}
-use Rattle.frame.specs.declared.receiver.Words.{Words}
 
 -- ---- one word
 
--- a word's answer without its reason
-abbrev pub found_of : Result Figures DecodeError → Found
-found_of d = record { accepted = eqb (number_of d) 0; figures = figures_of d }
-
--- a frame is called plain only where no mark is set
-pub record Plain (plain : Bool) (marks : List ℕ) : Type 0 where
-  pub none : plain ≡ true → T (below 1 marks)
-
-pub plain_if : (plain : Bool) (marks : List ℕ) → plain ≡ below 1 marks → Plain plain marks
-plain_if plain marks e = record { none = λ h. rw (← e, h) tt }
-
--- then every word's marks are zeros
+-- where no mark is set, every word's marks are zeros
 module _ (J n w : ℕ) (marks : List ℕ) (none : T (below 1 marks)) where
   small : T (below 256 marks)
   small = below_all 256 marks λ i l. omega (arith, below_at 1 marks none i (omega arith))
@@ -52,34 +41,57 @@ module _ (J n w : ℕ) (marks : List ℕ) (none : T (below 1 marks)) where
       get_or-take n (replicate 255 0) i 0 (omega (arith, size)) ∙ zeros_at 255 i ∙ sym (let z : at (word_in J n marks w) i < 1 = below_at 1 (word_in J n marks w) (word_below J n marks w 1 (omega arith) none) i (omega arith) in omega arith)) in
       record { size = length-replicate {A = ℕ} 255 0; word = own; bytes = rw own (word_below J n marks w 256 (omega arith) small) }
 
--- what has been checked before word w is decoded
-pub record WordGiven (f : Framing) (w : ℕ) (slots marks part map : List ℕ) : Type 0 where
+-- what has been checked of a received frame
+pub record FrameTaken (f : Framing) (slots marks : List ℕ) : Type 0 where
   pub limits : FrameAllowed f
-  pub turn : w < f.depth
   pub slots_size : length slots ≡ slot_count f
   pub marks_size : length marks ≡ slot_count f
   pub marks_small : T (below 2 marks)
+
+pub frame_taken : (f : Framing) (slots marks : List ℕ)
+    → FrameAllowed f → length slots ≡ slot_count f → length marks ≡ slot_count f → below 2 marks ≡ true → FrameTaken f slots marks
+frame_taken f slots marks a n m b = record { limits = a; slots_size = n; marks_size = m; marks_small = rw b tt }
+
+-- what has been checked before word w is decoded
+pub record WordGiven (f : Framing) (w : ℕ) (part map : List ℕ) : Type 0 where
+  pub turn : w < f.depth
   pub part_size : length part ≡ message_size (word_setting f)
   pub map_size : length map ≡ slot_count f
   pub blank : Blank f.depth w map
 
--- word w is decoded: its message is in its part, and where it was changed in its map; or it is beyond reach. A map without changed bits is all 0.
-pub record WordFound (f : Framing) (w : ℕ) (slots marks : List ℕ) (r : Found) (part changed : List ℕ) : Type 0 where
-  pub found : r.accepted ≡ true
-      → (is_none (corrected_word f slots marks w) ≡ false) × (r.figures ≡ figures_at f slots marks w) × (part ≡ message_of f slots marks w) × (changed ≡ changes_at f slots marks w)
-  pub spare : Spare r.figures.bits f.n changed
-  pub lost : r.accepted ≡ false → is_none (corrected_word f slots marks w) ≡ true
+-- word w is decoded, and accepted with these figures; where no bit was changed its map is all 0
+pub record Accepted (f : Framing) (w : ℕ) (slots marks : List ℕ) (own : Figures) (part changed : List ℕ) : Type 0 where
+  pub reached : is_none (corrected_word f slots marks w) ≡ false
+  pub figures_lem : own ≡ figures_at f slots marks w
+  pub message : part ≡ message_of f slots marks w
+  pub places : changed ≡ changes_at f slots marks w
+  pub spare : Spare own.bits f.n changed
 
-differ : {A : Type 0} → true ≡ false → A
-differ e = let z : ◌≡◌ {A = ℕ} 0 1 = cc in absurd (omega arith)
+-- its message is in its part, and where it was changed in its slots of the map
+pub record WordFound (f : Framing) (w : ℕ) (slots marks map : List ℕ) (own : Figures) (part left_map : List ℕ) : Type 0 where
+  pub reached : is_none (corrected_word f slots marks w) ≡ false
+  pub figures_lem : own ≡ figures_at f slots marks w
+  pub message : part ≡ message_of f slots marks w
+  pub size : length (changes_at f slots marks w) ≡ f.n
+  pub put : PutsWord f.depth w (changes_at f slots marks w) map left_map
 
--- and put into its slots of the frame's map
-pub record WordPut (f : Framing) (w : ℕ) (slots marks map : List ℕ) (r : Found) (part left_map : List ℕ) : Type 0 where
-  pub changed : List ℕ
-  pub word : WordFound f w slots marks r part changed
-  pub put : PutsWord f.depth w changed map left_map
+pub word_put : (f : Framing) (w : ℕ) (slots marks : List ℕ) (own : Figures) (part changed map left_map : List ℕ)
+    → Accepted f w slots marks own part changed → PutsWord f.depth w changed map left_map → WordFound f w slots marks map own part left_map
+word_put f w slots marks own part changed map left_map a p =
+    record { reached = a.reached; figures_lem = a.figures_lem; message = a.message; size = rw a.places at a.spare.size; put = rw a.places at p }
 
-module _ (f : Framing) (w : ℕ) (slots marks part map : List ℕ) (g : WordGiven f w slots marks part map) where
+-- where no bit was changed, the map's slots are right as they are
+pub word_kept : (f : Framing) (w : ℕ) (slots marks : List ℕ) (own : Figures) (part changed map : List ℕ)
+    → w < f.depth → Blank f.depth w map → own.bits ≡ 0 → Accepted f w slots marks own part changed → WordFound f w slots marks map own part map
+word_kept f w slots marks own part changed map l blank e a =
+    word_put f w slots marks own part changed map map a (put_none f.depth f.n w changed map l blank (a.spare.none e))
+
+-- or it is beyond reach
+abbrev pub WordTold : Framing → ℕ → (slots marks map : List ℕ) → Option Figures → (part left_map : List ℕ) → Type 0
+WordTold f w slots marks map (Some own) part left_map = WordFound f w slots marks map own part left_map
+WordTold f w slots marks map None part left_map = is_none (corrected_word f slots marks w) ≡ true
+
+module _ (f : Framing) (w : ℕ) (slots marks : List ℕ) (g : FrameTaken f slots marks) where
   abbrev word : List ℕ
   word = received_word f slots marks w
 
@@ -95,35 +107,37 @@ module _ (f : Framing) (w : ℕ) (slots marks part map : List ℕ) (g : WordGive
     marks_small = word_below f.depth f.n marks w 2 (omega arith) g.marks_small;
   }
 
-  module _ (room : List ℕ) (room_size : length room ≡ f.n) where
-    decides : T (below 256 word) → (d : Result Figures DecodeError) (left changed : List ℕ) → DecodesPart (word_setting f) word marked part room d left changed
-        → (o : Option (List ℕ)) → corrected_word f slots marks w ≡ o → WordFound f w slots marks (found_of d) left changed
-    unfolding corrected_word message_of figures_at changes_at
-    decides small d left changed p (some c) e =
-        let own : Figures = figures marked word c in
-        let (x, y, z) = decodes_part_once p (part_found (word_setting f) word marked part room g.part_size room_size (checks small) c own (changes word c) e refl refl) in
-        rw (x, y, z) (record {
-          found = λ _. (rw e, rw e, rw e, rw e);
-          spare = record { size = length_changes word c ∙ length_word f.depth f.n slots w; none = λ b. changes_no_bits word c b ∙ ap (λ (k : ℕ). replicate k 0) (length_word f.depth f.n slots w) };
-          lost = λ z. differ z;
-        })
-    decides small d left changed p none e =
-        let (x, y, z) = decodes_part_once p (part_lost (word_setting f) word marked part room g.part_size room_size (checks small) (unchanged word) e refl) in
-        let all : unchanged word ≡ replicate f.n 0 = ap (λ (k : ℕ). replicate k 0) (length_word f.depth f.n slots w) in
-        rw (x, z) (record {
-          found = λ z. differ (sym z);
-          spare = record { size = ap length all ∙ length-replicate f.n 0; none = λ _. all };
-          lost = λ _. rw e;
-        })
-
   -- the word and its marks, taken from their slots, have passed the word's checks
   pub word_checked : (r s : List ℕ) → TakesWord f.depth f.n w slots r → TakesWord f.depth f.n w marks s → Checked (word_setting f) (take f.n s) (take f.n r)
   word_checked r s p q = rw (p.word, q.word) (checks (rw p.word at p.bytes))
 
-  -- and what the decoder says of them
-  pub word_found : (r s room : List ℕ) → length room ≡ f.n → TakesWord f.depth f.n w slots r → TakesWord f.depth f.n w marks s → (d : Result Figures DecodeError) (left changed : List ℕ)
-      → DecodesPart (word_setting f) (take f.n r) (take f.n s) part room d left changed → WordFound f w slots marks (found_of d) left changed
-  word_found r s room n p q d left changed e = decides room n (rw p.word at p.bytes) d left changed (rw (p.word, q.word) at e) (corrected_word f slots marks w) refl
+  module _ (part room : List ℕ) (part_size : length part ≡ message_size (word_setting f)) (room_size : length room ≡ f.n) (r s : List ℕ)
+      (p : TakesWord f.depth f.n w slots r) (q : TakesWord f.depth f.n w marks s) where
+    -- what is known of a word by what it was found to have
+    abbrev says : Option Figures → (left changed : List ℕ) → Type 0
+    says (Some own) left changed = Accepted f w slots marks own left changed
+    says None left changed = is_none (corrected_word f slots marks w) ≡ true
+
+    decides : T (below 256 word) → (d : Result Figures DecodeError) (left changed : List ℕ) → DecodesPart (word_setting f) word marked part room d left changed
+        → (o : Math.Option (List ℕ)) → corrected_word f slots marks w ≡ o → says (result_ok d) left changed
+    unfolding corrected_word message_of figures_at changes_at
+    decides small d left changed t (some c) e =
+        let own : Figures = figures marked word c in
+        let (x, y, z) = decodes_part_once t (part_found (word_setting f) word marked part room part_size room_size (checks small) c own (changes word c) e refl refl) in
+        rw (x, y, z) (record {
+          reached = rw e refl;
+          figures_lem = rw e refl;
+          message = rw e refl;
+          places = rw e refl;
+          spare = record { size = length_changes word c ∙ length_word f.depth f.n slots w; none = λ b. changes_no_bits word c b ∙ ap (λ (k : ℕ). replicate k 0) (length_word f.depth f.n slots w) };
+        })
+    decides small d left changed t none e =
+        let (x, y, z) = decodes_part_once t (part_lost (word_setting f) word marked part room part_size room_size (checks small) (unchanged word) e refl) in
+        rw x (rw e refl)
+
+    pub word_told : (d : Result Figures DecodeError) (left changed : List ℕ)
+        → DecodesPart (word_setting f) (take f.n r) (take f.n s) part room d left changed → says (result_ok d) left changed
+    word_told d left changed t = decides (rw p.word at p.bytes) d left changed (rw (p.word, q.word) at t) (corrected_word f slots marks w) refl
 
 -- ---- the loop
 
@@ -138,11 +152,21 @@ pub record Collecting (f : Framing) (slots marks before : List ℕ) (w : ℕ) (a
   pub rest : (i : ℕ) → w ≤ i → get_or figures i no_figures ≡ no_figures
   pub count : length figures ≡ 16
 
--- the words are decoded, up to the first that is beyond reach
-pub record Collected (f : Framing) (slots marks : List ℕ) (r : Words) (area map : List ℕ) : Type 0 where
-  pub most : r.accepted ≤ f.depth
-  pub first : r.accepted ≡ beyond f slots marks
-  pub all : r.accepted ≡ f.depth → (r.figures ≡ figures_received f slots marks) × (area ≡ area_received f slots marks) × (map ≡ map_received f slots marks)
+-- all words are accepted
+pub record AllFound (f : Framing) (slots marks : List ℕ) (figures : List Figures) (area map : List ℕ) : Type 0 where
+  pub none : beyond f slots marks ≡ f.depth
+  pub figures_lem : figures ≡ figures_received f slots marks
+  pub area_lem : area ≡ area_received f slots marks
+  pub map_lem : map ≡ map_received f slots marks
+
+-- or word w is the first that is beyond reach
+pub record FirstLost (f : Framing) (slots marks : List ℕ) (w : ℕ) : Type 0 where
+  pub turn : w < f.depth
+  pub first : w ≡ beyond f slots marks
+
+abbrev pub Collected : Framing → (slots marks : List ℕ) → Result (List Figures) ℕ → (area map : List ℕ) → Type 0
+Collected f slots marks (Ok figures) area map = AllFound f slots marks figures area map
+Collected f slots marks (Err w) area map = FirstLost f slots marks w
 
 module _ (f : Framing) (slots marks before : List ℕ) where
   abbrev k : ℕ
@@ -180,46 +204,36 @@ module _ (f : Framing) (slots marks before : List ℕ) where
     put_size l part size = put_part_size k w part area (fits l) size ∙ same
 
     -- the next word is accepted
-    pub collecting_more : f.depth ≤ 16 → w < f.depth → (r : Found) (part left_map : List ℕ) → length part ≡ k → r.accepted ≡ true → WordPut f w slots marks map r part left_map
-        → Collecting f slots marks before (w + 1) (put_part k w part area) left_map (set figures w r.figures)
-    collecting_more few l r part left_map size ok d =
-        let (yes_reached, own, message, places) = d.word.found ok in
-        record {
-          turn = omega arith;
-          room = h.room;
-          messages = written_more k (message_of f slots marks) before w area h.messages part message size;
-          mapped = mapping_more _ _ _ w map h.mapped d.changed left_map l places d.word.spare.size d.put;
-          reached = below_more (λ (i : ℕ). is_none (corrected_word f slots marks i) ≡ false) w h.reached yes_reached;
-          found = below_more (λ (i : ℕ). get_or (set figures w r.figures) i no_figures ≡ figures_at f slots marks i) w
-              (λ i a. get_or-set_other figures w i r.figures no_figures (λ q. omega arith) ∙ h.found i a)
-              (get_or-set_same figures w r.figures no_figures (omega (arith, h.count, few)) ∙ own);
-          rest = λ i a. get_or-set_other figures w i r.figures no_figures (λ q. omega arith) ∙ h.rest i (omega arith);
-          count = length-set figures w r.figures ∙ h.count;
-        }
-
-    -- the next word is beyond reach
-    pub collected_lost : w < f.depth → (r : Found) (part put_map left left_map : List ℕ) → r.accepted ≡ false → WordPut f w slots marks map r part put_map
-        → Collected f slots marks (record { accepted = w; figures = figures }) left left_map
-    unfolding beyond
-    collected_lost l r part put_map left left_map lost d = record {
-      most = omega arith;
-      first = sym (first_is f.depth (λ i. is_none (corrected_word f slots marks i)) w l h.reached (d.word.lost lost));
-      all = λ e. absurd (omega arith);
+    pub collecting_more : f.depth ≤ 16 → w < f.depth → (own : Figures) (part left_map : List ℕ) → length part ≡ k → WordFound f w slots marks map own part left_map
+        → Collecting f slots marks before (w + 1) (put_part k w part area) left_map (set figures w own)
+    collecting_more few l own part left_map size d = record {
+      turn = omega arith;
+      room = h.room;
+      messages = written_more k (message_of f slots marks) before w area h.messages part d.message size;
+      mapped = mapping_more _ _ _ w map h.mapped (changes_at f slots marks w) left_map l refl d.size d.put;
+      reached = below_more (λ (i : ℕ). is_none (corrected_word f slots marks i) ≡ false) w h.reached d.reached;
+      found = below_more (λ (i : ℕ). get_or (set figures w own) i no_figures ≡ figures_at f slots marks i) w
+          (λ i a. get_or-set_other figures w i own no_figures (λ q. omega arith) ∙ h.found i a)
+          (get_or-set_same figures w own no_figures (omega (arith, h.count, few)) ∙ d.figures_lem);
+      rest = λ i a. get_or-set_other figures w i own no_figures (λ q. omega arith) ∙ h.rest i (omega arith);
+      count = length-set figures w own ∙ h.count;
     }
 
+    -- the next word is beyond reach
+    pub first_lost : w < f.depth → is_none (corrected_word f slots marks w) ≡ true → FirstLost f slots marks w
+    unfolding beyond
+    first_lost l lost = record { turn = l; first = sym (first_is f.depth (λ i. is_none (corrected_word f slots marks i)) w l h.reached lost) }
+
     -- all are accepted
-    pub collected_all : f.depth ≤ w → 1 ≤ f.depth → f.depth ≤ 16 → Collected f slots marks (record { accepted = f.depth; figures = figures }) area map
+    pub all_found : f.depth ≤ w → 1 ≤ f.depth → f.depth ≤ 16 → AllFound f slots marks figures area map
     unfolding beyond figures_received area_received map_received
-    collected_all l one few =
+    all_found l one few =
         let e : w ≡ f.depth = omega (arith, h.turn) in
         record {
-          most = omega arith;
-          first = sym (first_none f.depth (λ i. is_none (corrected_word f slots marks i)) λ i a. h.reached i (omega arith));
-          all = λ _. (
-            tabulated figures 16 (λ i. if ltb i f.depth then figures_at f slots marks i else no_figures) no_figures h.count each_figure,
-            rw e at (written_all k (message_of f slots marks) before w area h.messages (rw e h.room)),
-            mapping_all _ _ _ w map h.mapped l one,
-          );
+          none = first_none f.depth (λ i. is_none (corrected_word f slots marks i)) λ i a. h.reached i (omega arith);
+          figures_lem = tabulated figures 16 (λ i. if ltb i f.depth then figures_at f slots marks i else no_figures) no_figures h.count each_figure;
+          area_lem = rw e at (written_all k (message_of f slots marks) before w area h.messages (rw e h.room));
+          map_lem = mapping_all _ _ _ w map h.mapped l one;
         }
       where
         each_figure : (i : ℕ) → i < 16 → get_or figures i no_figures ≡ (if ltb i f.depth then figures_at f slots marks i else no_figures)

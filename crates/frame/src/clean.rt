@@ -3,12 +3,12 @@
 ghost use Rattle.std.specs.Prelude.{◌≡◌};
 ghost use Rattle.word.specs.Looking.{Tabled};
 ghost use Rattle.frame.specs.Frame.{word_setting};
-ghost use Rattle.frame.specs.Clean.{clean_number, unclean, clean_refusal};
 ghost use Rattle.frame.specs.Promises.{IsClean};
-ghost use Rattle.frame.specs.Checks.{CleanChecked};
+ghost use Rattle.frame.specs.Checks.{CleanChecked, CleanTold};
+ghost use Rattle.frame.specs.Asking.{FirstUnclean};
 
-use crate::setting::{Framing, is_allowed, words_of};
-use word::tables::{is_clean_by, no_table, prepare};
+use crate::setting::{Framing, is_allowed};
+use word::tables::{Tables, is_clean_by, prepare};
 
 // Why a frame is not asked about.
 #[derive(Clone, Copy, Debug, PartialEq, Eq)]
@@ -18,48 +18,40 @@ pub enum CleanError {
 }
 
 // Whether a frame can be asked about. The setting comes first: within its limits the number of slots fits.
+#[tactic(auto, using(crate::specs::Checks::told))]
 fn check_clean(f: Framing, slots: &[u8]) -> Result<(), CleanError>
-    ensures { clean_number result ≡ clean_refusal f slots.now }
+    ensures { CleanTold f slots.now result }
 {
     if !is_allowed(f) {
         return Err(CleanError::BadSetting);
     }
-    if slots.len() != f.n * f.depth {
+    if slots.len() != f.slots() {
         return Err(CleanError::BadLength);
     }
     Ok(())
 }
 
-// The first word that is no codeword; the depth where all are. No word behind it is looked at.
-fn first_unclean(f: Framing, low: &[u64; 128], high: &[u64; 128], slots: &[u8]) -> usize
-    requires { CleanChecked f slots.now × Tabled (word_setting f) low.now high.now }
-    ensures { result ≡ unclean f slots.now }
+// The first word that is no codeword, or none where all are. No word behind it is looked at.
+fn first_unclean(f: Framing, tables: &Tables, slots: &[u8]) -> Option<u8>
+    requires { CleanChecked f slots.now × Tabled (word_setting f) tables.now }
+    ensures { FirstUnclean f slots.now result }
 {
-    let s = words_of(f);
-    let depth = f.depth;
-    let mut first = depth;
-    let mut w = 0;
-    while w < first {
-        if !is_clean_by(s, low, high, slots, depth, w) {
-            first = w;
+    for w in 0..f.depth {
+        if !is_clean_by(f.words(), tables, slots, f.depth, w) {
+            return Some(w as u8);
         }
-        w += 1;
     }
-    first
+    None
 }
 
 // The first word of a received frame that is no codeword, or none where every word is one. Refused 1 for the setting, also where the area has no
 // room for a trailer, and 2 for the number of slots.
+#[tactic(auto, using(crate::specs::Asking::clean_refused, crate::specs::Asking::clean_told, std::proofs::lemmas::Result::err_from_is_err_and))]
 pub fn is_clean(f: Framing, slots: &[u8]) -> Result<Option<u8>, CleanError>
     ensures { IsClean f slots.now result }
 {
     check_clean(f, slots)?;
-    let mut low = no_table();
-    let mut high = no_table();
-    prepare(words_of(f), &mut low, &mut high);
-    let first = first_unclean(f, &low, &high, slots);
-    if first < f.depth {
-        return Ok(Some(first as u8));
-    }
-    Ok(None)
+    let mut tables = Tables::none();
+    prepare(f.words(), &mut tables);
+    Ok(first_unclean(f, &tables, slots))
 }

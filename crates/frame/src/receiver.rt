@@ -1,141 +1,95 @@
 // Receiving a frame: document 01, section Block interleaver and frame. Its words are decoded into a lent message area, which then holds the
 // payload; and where they were changed goes to a lent map, slot by slot: document 02, No. 6.
-ghost use Rattle.std.specs.Prelude.{◌≡◌, ◌≤◌, length, replicate};
+ghost use Rattle.std.specs.Prelude.{◌≡◌, ◌<◌, ◌≤◌, true, length, replicate};
+ghost use Rattle.algebra.specs.Tests.{below};
 ghost use Rattle.word.specs.Looking.{Tabled};
-ghost use Rattle.interleave.specs.Slots.{HasWord, TakesWord, PutsWord};
-ghost use Rattle.frame.specs.Frame.{word_setting, number_of, receive_outcome, settled, decoded_frame, receive_refusal};
+ghost use Rattle.interleave.specs.Slots.{TakesWord};
+ghost use Rattle.frame.specs.Frame.{word_setting, slot_count, area_size, receive_outcome, settled, decoded_frame};
 ghost use Rattle.frame.specs.Promises.{Receives};
-ghost use Rattle.frame.specs.Checks.{ReceiveChecked};
-ghost use Rattle.frame.specs.Mapping.{Blank, Spare};
-ghost use Rattle.frame.specs.Decoding.{found_of, Plain, WordGiven, WordPut, Collected};
+ghost use Rattle.frame.specs.Frame.Limits.{FrameAllowed};
+ghost use Rattle.frame.specs.Checks.{ReceiveChecked, ReceiveTold};
+ghost use Rattle.frame.specs.Decoding.{WordGiven, WordTold, Collected};
 
-use crate::setting::{Framing, ReceiveError, Received, is_allowed, words_of};
+use crate::setting::{Framing, ReceiveError, Received, is_allowed};
 use crate::trailer::{is_good, two_at};
-use buffers::{all_below, fill, work_space};
+use buffers::{all_below, filled};
 use interleave::slots::{put_word, take_word};
-use word::numbers::{figures_of, no_figures};
-use word::tables::{decode_part_by, no_table, prepare};
-use word::{DecodeError, Figures};
+use word::Figures;
+use word::numbers::no_figures;
+use word::tables::{Tables, decode_part_by, prepare};
 
-// What one word was found to have; no figures where it is refused.
+// A received frame that has passed the checks, with what all its words have in common: the tables of their setting, and whether no mark is set
+// at all.
 #[derive(Drop)]
-pub struct Found {
-    pub accepted: bool,
-    pub figures: Figures,
-}
-
-// What the words were found to have: how many from the first on were accepted, and the figures of these.
-#[derive(Drop)]
-pub struct Words {
-    pub accepted: usize,
-    pub figures: [Figures; 16],
-}
-
-// A word's answer without its reason: a frame tells only which word failed.
-fn without_reason(answer: Result<Figures, DecodeError>) -> Found
-    ensures { result ≡ found_of answer }
-{
-    Found {
-        accepted: answer.is_ok(),
-        figures: figures_of(answer),
-    }
-}
-
-// Room for a word's marks, none of them set. A call of its own keeps the array out of its callers' proofs.
-fn no_marks() -> [u8; 255]
-    ensures { result ≡ replicate 255 0 }
-{
-    [0; 255]
-}
-
-// The marks of word w. They are not gathered from their slots where the frame is plain, which is to say that no mark is set.
-fn marks_of(f: Framing, plain: bool, w: usize, marks: &[u8]) -> [u8; 255]
-    requires { HasWord f.depth f.n w (length marks.now) × Plain plain marks.now }
-    ensures { TakesWord f.depth f.n w marks.now result }
-{
-    if plain {
-        return no_marks();
-    }
-    take_word(f.depth, f.n, w, marks)
-}
-
-// Puts a word's map into its slots of the frame's, which are 0 before. Without changed bits it is all 0, and there is nothing to put.
-fn put_changes(f: Framing, w: usize, bits: u16, changed: &[u8], map: &mut [u8])
-    requires { HasWord f.depth f.n w (length map.old) × Blank f.depth w map.old × Spare bits f.n changed.now }
-    ensures { PutsWord f.depth w changed.now map.old map.new }
-{
-    if bits == 0 {
-        return;
-    }
-    put_word(f.depth, w, changed, map);
-}
-
-// Decodes word w into its part of the area, by the tables of all words, and maps where it was changed.
-fn receive_word(
+struct Arrived<'a> {
     f: Framing,
-    low: &[u64; 128],
-    high: &[u64; 128],
+    tables: &'a Tables,
+    slots: &'a [u8],
+    marks: &'a [u8],
     plain: bool,
-    w: usize,
-    slots: &[u8],
-    marks: &[u8],
-    part: &mut [u8],
-    map: &mut [u8],
-) -> Found
-    requires { WordGiven f w slots.now marks.now part.old map.old × Tabled (word_setting f) low.now high.now × Plain plain marks.now }
-    ensures { WordPut f w slots.now marks.now map.old result part.new map.new }
-{
-    let word = take_word(f.depth, f.n, w, slots);
-    let marked = marks_of(f, plain, w, marks);
-    let mut room = work_space();
-    let changed = &mut room[..f.n];
-    let answer = decode_part_by(
-        words_of(f),
-        low,
-        high,
-        &word[..f.n],
-        &marked[..f.n],
-        part,
-        changed,
-    );
-    let found = without_reason(answer);
-    put_changes(f, w, found.figures.bits, changed, map);
-    found
+    ghost limits: { FrameAllowed f },
+    ghost slots_size: { length slots.now ≡ slot_count f },
+    ghost marks_size: { length marks.now ≡ slot_count f },
+    ghost marks_small: { below 2 marks.now ≡ true },
+    ghost tabled: { Tabled (word_setting f) tables.now },
+    ghost plain_is: { plain ≡ below 1 marks.now },
 }
 
-// Decodes each word into its part of the area and its slots of the map, which is cleared before, up to the first that is refused.
-fn receive_words(
-    f: Framing,
-    low: &[u64; 128],
-    high: &[u64; 128],
-    plain: bool,
-    slots: &[u8],
-    marks: &[u8],
-    area: &mut [u8],
-    map: &mut [u8],
-) -> Words
-    requires { ReceiveChecked f slots.now marks.now area.old map.old × Tabled (word_setting f) low.now high.now × Plain plain marks.now }
-    ensures { Collected f slots.now marks.now result area.new map.new }
-{
-    fill(map, 0);
-    let k = f.n - f.r;
-    let mut figures = [no_figures(); 16];
-    for w in 0..f.depth {
-        let a = w * k;
-        let part = &mut area[a..a + k];
-        let found = receive_word(f, low, high, plain, w, slots, marks, part, map);
-        if !found.accepted {
-            return Words {
-                accepted: w,
-                figures,
-            };
+impl Arrived<'_> {
+    // The marks of word w. They are not gathered from their slots where the frame is plain.
+    fn marks_of(&self, w: usize) -> [u8; 255]
+        requires { w < self.now.f.depth }
+        ensures { TakesWord self.now.f.depth self.now.f.n w self.now.marks.now result }
+    {
+        if self.plain {
+            return filled(0);
         }
-        let own = found.figures;
-        figures[w] = own;
+        take_word(self.f.depth, self.f.n, w, self.marks)
     }
-    Words {
-        accepted: f.depth,
-        figures,
+
+    // Decodes word w into its part of the area, and maps where it was changed.
+    fn receive_word(&self, w: usize, part: &mut [u8], map: &mut [u8]) -> Option<Figures>
+        requires { WordGiven self.now.f w part.old map.old }
+        ensures { WordTold self.now.f w self.now.slots.now self.now.marks.now map.old result part.new map.new }
+    {
+        let f = self.f;
+        let word = take_word(f.depth, f.n, w, self.slots);
+        let marked = self.marks_of(w);
+        let mut room: [u8; 255] = filled(0);
+        let changed = &mut room[..f.n];
+        let own = decode_part_by(
+            f.words(),
+            self.tables,
+            &word[..f.n],
+            &marked[..f.n],
+            part,
+            changed,
+        )
+        .ok()?;
+        // Without changed bits the word's map is all 0, as its slots are already.
+        if own.bits != 0 {
+            put_word(f.depth, w, changed, map);
+        }
+        Some(own)
+    }
+
+    // Decodes each word into its part of the area and its slots of the map, which is cleared before; or tells the first word that is refused.
+    fn receive_words(&self, area: &mut [u8], map: &mut [u8]) -> Result<[Figures; 16], u8>
+        requires { (length area.old ≡ area_size self.now.f) × (length map.old ≡ slot_count self.now.f) }
+        ensures { Collected self.now.f self.now.slots.now self.now.marks.now result area.new map.new }
+    {
+        map.fill(0);
+        let k = self.f.message();
+        let mut figures = [no_figures(); 16];
+        for w in 0..self.f.depth {
+            let a = w * k;
+            let part = &mut area[a..a + k];
+            let Some(own) = self.receive_word(w, part, map) else {
+                return Err(w as u8);
+            };
+            figures[w] = own;
+        }
+        Ok(figures)
     }
 }
 
@@ -143,11 +97,12 @@ fn receive_words(
 fn clear(whole: &mut [u8], changed: &mut [u8])
     ensures { (whole.new ≡ replicate (length whole.old) 0) × (changed.new ≡ replicate (length changed.old) 0) }
 {
-    fill(whole, 0);
-    fill(changed, 0);
+    whole.fill(0);
+    changed.fill(0);
 }
 
 // The answer of a frame whose words are all accepted: what its trailer says.
+#[tactic(auto, using(crate::specs::Receiving::settled_bad, crate::specs::Receiving::settled_good))]
 fn settle(
     whole: &mut [u8],
     map: &mut [u8],
@@ -169,6 +124,7 @@ fn settle(
 }
 
 // Decodes a frame that has passed the checks. Its words have one setting, so they have their tables in common.
+#[tactic(auto, using(crate::specs::Receiving::decoded_beyond, crate::specs::Receiving::decoded_settled))]
 fn receive_checked(
     f: Framing,
     slots: &[u8],
@@ -179,20 +135,26 @@ fn receive_checked(
     requires { ReceiveChecked f slots.now marks.now area.old map.old }
     ensures { receive_outcome result area.new map.new ≡ decoded_frame f slots.now marks.now }
 {
-    let mut low = no_table();
-    let mut high = no_table();
-    prepare(words_of(f), &mut low, &mut high);
-    let plain = all_below(marks, 1);
-    let words = receive_words(f, &low, &high, plain, slots, marks, area, map);
-    if words.accepted < f.depth {
-        clear(area, map);
-        return Err(ReceiveError::BeyondReach(words.accepted as u8));
+    let mut tables = Tables::none();
+    prepare(f.words(), &mut tables);
+    let arrived = Arrived {
+        f,
+        tables: &tables,
+        slots,
+        marks,
+        plain: all_below(marks, 1),
+    };
+    match arrived.receive_words(area, map) {
+        Ok(figures) => settle(area, map, figures),
+        Err(w) => {
+            clear(area, map);
+            Err(ReceiveError::BeyondReach(w))
+        }
     }
-    let figures = words.figures;
-    settle(area, map, figures)
 }
 
 // Whether a frame can be decoded into this area and this map. The setting comes first: within its limits the lengths fit.
+#[tactic(auto, using(crate::specs::Checks::told))]
 fn check_receive(
     f: Framing,
     slots: &[u8],
@@ -200,21 +162,13 @@ fn check_receive(
     area: &[u8],
     map: &[u8],
 ) -> Result<(), ReceiveError>
-    ensures { number_of result ≡ receive_refusal f slots.now marks.now area.now map.now }
+    ensures { ReceiveTold f slots.now marks.now area.now map.now result }
 {
     if !is_allowed(f) {
         return Err(ReceiveError::BadSetting);
     }
-    if slots.len() != f.n * f.depth {
-        return Err(ReceiveError::BadLength);
-    }
-    if marks.len() != f.n * f.depth {
-        return Err(ReceiveError::BadLength);
-    }
-    if area.len() != f.depth * (f.n - f.r) {
-        return Err(ReceiveError::BadLength);
-    }
-    if map.len() != f.n * f.depth {
+    let size = f.slots();
+    if slots.len() != size || marks.len() != size || area.len() != f.area() || map.len() != size {
         return Err(ReceiveError::BadLength);
     }
     if !all_below(marks, 2) {
@@ -226,6 +180,7 @@ fn check_receive(
 // Decodes a received frame into the lent area of A bytes; its slots and marks are only read. The map, which has a mark for each slot, gets 1
 // where a slot was changed, and 0 elsewhere. A frame that is beyond reach or has a bad trailer leaves zeros in the area and in the map, and any
 // other refusal leaves both as they were.
+#[tactic(auto, using(crate::specs::Receiving::receive_refused, crate::specs::Receiving::receive_decoded, std::proofs::lemmas::Result::err_from_is_err_and))]
 pub fn receive(
     f: Framing,
     slots: &[u8],

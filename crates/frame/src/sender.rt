@@ -2,27 +2,29 @@
 // words.
 ghost use Rattle.std.specs.Prelude.{◌≡◌};
 ghost use Rattle.word.specs.Looking.{Tabled};
-ghost use Rattle.frame.specs.Frame.{word_setting, sent_number, send_refusal, slots_sent};
+ghost use Rattle.frame.specs.Frame.{word_setting, slots_sent};
 ghost use Rattle.frame.specs.Promises.{Sends};
+ghost use Rattle.frame.specs.Checks.{SendTold};
 ghost use Rattle.frame.specs.Sending.{SendGiven};
 
-use crate::setting::{Framing, SendError, is_allowed, words_of};
+use crate::setting::{Framing, SendError, is_allowed};
 use crate::trailer::fill_message;
-use buffers::work_space;
+use buffers::filled;
 use interleave::slots::put_word;
-use word::tables::{encode_by, no_table, prepare};
+use word::tables::{Tables, encode_by, prepare};
 
 // Whether a payload can be sent into these slots. The setting comes first: within its limits the area's size fits.
+#[tactic(auto, using(crate::specs::Checks::told))]
 fn check_send(f: Framing, payload: &[u8], slots: &[u8]) -> Result<(), SendError>
-    ensures { sent_number result ≡ send_refusal f payload.now slots.now }
+    ensures { SendTold f payload.now slots.now result }
 {
     if !is_allowed(f) {
         return Err(SendError::BadSetting);
     }
-    if slots.len() != f.n * f.depth {
+    if slots.len() != f.slots() {
         return Err(SendError::BadLength);
     }
-    if f.depth * (f.n - f.r) - 4 < payload.len() {
+    if f.area() - 4 < payload.len() {
         return Err(SendError::LongPayload);
     }
     Ok(())
@@ -32,46 +34,42 @@ fn check_send(f: Framing, payload: &[u8], slots: &[u8]) -> Result<(), SendError>
 // and its word.
 fn send_words(
     f: Framing,
-    low: &[u64; 128],
-    high: &[u64; 128],
+    tables: &Tables,
     payload: &[u8],
     sequence: u16,
     message: &mut [u8],
     word: &mut [u8],
     slots: &mut [u8],
 )
-    requires { SendGiven f payload.now message.old word.old slots.old × Tabled (word_setting f) low.now high.now }
+    requires { SendGiven f payload.now message.old word.old slots.old × Tabled (word_setting f) tables.now }
     ensures { slots.new ≡ slots_sent f payload.now sequence }
 {
-    let k = f.n - f.r;
-    let size = f.depth * k;
-    let s = words_of(f);
+    let k = f.message();
+    let size = f.area();
     for w in 0..f.depth {
         fill_message(payload, sequence, size, w * k, message);
-        encode_by(s, low, high, message, word);
+        encode_by(f.words(), tables, message, word);
         put_word(f.depth, w, word, slots);
     }
 }
 
 // Sends a payload of at most A - 4 bytes with its sequence number: fills the slots, of which there are n * depth.
 // Any refusal leaves the slots as they were.
+#[tactic(auto, using(crate::specs::Sending::send_refused, crate::specs::Sending::send_done, std::proofs::lemmas::Result::err_from_is_err_and))]
 pub fn send(f: Framing, payload: &[u8], sequence: u16, slots: &mut [u8]) -> Result<(), SendError>
     ensures { Sends f payload.now sequence slots.old result slots.new }
 {
     check_send(f, payload, slots)?;
-    let mut low = no_table();
-    let mut high = no_table();
-    prepare(words_of(f), &mut low, &mut high);
-    let mut message = work_space();
-    let mut word = work_space();
-    let k = f.n - f.r;
+    let mut tables = Tables::none();
+    prepare(f.words(), &mut tables);
+    let mut message: [u8; 255] = filled(0);
+    let mut word: [u8; 255] = filled(0);
     send_words(
         f,
-        &low,
-        &high,
+        &tables,
         payload,
         sequence,
-        &mut message[..k],
+        &mut message[..f.message()],
         &mut word[..f.n],
         slots,
     );

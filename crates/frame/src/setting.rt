@@ -1,6 +1,8 @@
 // A frame's setting with its limits, and what the calls on a frame answer.
 ghost use Rattle.std.specs.Prelude.{◌≡◌};
-ghost use Rattle.frame.specs.Frame.{allowed_frame, word_setting};
+ghost use Rattle.word.specs.Setting.{message_size};
+ghost use Rattle.frame.specs.Frame.{word_setting, slot_count, area_size, allowed_frame};
+ghost use Rattle.frame.specs.Frame.Limits.{Small};
 
 use word::{Figures, Setting};
 
@@ -39,33 +41,48 @@ pub struct Received {
     pub figures: [Figures; 16],
 }
 
-// The setting of a frame's words.
-pub fn words_of(f: Framing) -> Setting
-    ensures { result ≡ word_setting f }
-{
-    Setting {
-        m: 8,
-        n: f.n,
-        r: f.r,
-        b: f.b,
+impl Framing {
+    // The setting of the frame's words.
+    pub fn words(self) -> Setting
+        ensures { result ≡ word_setting self }
+    {
+        Setting {
+            m: 8,
+            n: self.n,
+            r: self.r,
+            b: self.b,
+        }
+    }
+
+    // How many slots the frame has.
+    pub fn slots(self) -> usize
+        requires { Small self }
+        ensures { result ≡ slot_count self }
+    {
+        self.n * self.depth
+    }
+
+    // How many bytes a word's message has.
+    pub fn message(self) -> usize
+        requires { Small self }
+        ensures { result ≡ message_size (word_setting self) }
+    {
+        self.n - self.r
+    }
+
+    // How many bytes the message area has.
+    pub fn area(self) -> usize
+        requires { Small self }
+        ensures { result ≡ area_size self }
+    {
+        self.depth * self.message()
     }
 }
 
 // Whether a frame's setting keeps the limits. The words' come first, so that the area's size is small.
+#[tactic(auto, using(crate::specs::Frame::Limits::small_yes), unfolding(crate::specs::Frame::allowed_frame))]
 pub fn is_allowed(f: Framing) -> bool
     ensures { result ≡ allowed_frame f }
 {
-    if !word::limits::is_allowed(words_of(f)) {
-        return false;
-    }
-    if f.depth < 1 {
-        return false;
-    }
-    if 16 < f.depth {
-        return false;
-    }
-    if f.depth * (f.n - f.r) < 4 {
-        return false;
-    }
-    true
+    word::limits::is_allowed(f.words()) && 1 <= f.depth && f.depth <= 16 && 4 <= f.area()
 }

@@ -1,44 +1,38 @@
 // The message area and its trailer: document 01, section Block interleaver and frame. Zeros, the payload, and in the last four bytes how far
 // back it goes and the sequence number.
-ghost use Rattle.std.specs.Prelude.{◌≡◌, ◌+◌, ◌<◌, ◌≤◌, length};
+ghost use Rattle.std.specs.Prelude.{◌≡◌, ℕ, ◌+◌, ◌<◌, ◌≤◌, length};
 ghost use Rattle.algebra.specs.Tests.{at};
 ghost use Rattle.algebra.specs.Lists.{Copied};
-ghost use Rattle.frame.specs.Frame.{trailer, two_at, area_byte, area_sent, zeros_before, trailer_good};
+ghost use Rattle.frame.specs.Frame.{trailer, two_at, area_byte, area_sent, trailer_good};
 ghost use Rattle.frame.specs.Promises.{HandsBack};
 
 use crate::setting::{ReceiveError, Received};
+use buffers::all_below;
 
-// Byte i of the trailer to be sent.
-fn trailer_at(back: u16, sequence: u16, i: usize) -> u8
-    requires { i < 4 }
-    ensures { (result ≡ at (trailer back sequence) i) × (result < 256) }
+// The trailer to be sent: how far back the payload goes, and the sequence number, each low byte first.
+fn trailer_of(back: u16, sequence: u16) -> [u8; 4]
+    ensures { result ≡ trailer back sequence }
 {
-    if i == 0 {
-        return (back % 256) as u8;
-    }
-    if i == 1 {
-        return (back / 256) as u8;
-    }
-    if i == 2 {
-        return (sequence % 256) as u8;
-    }
-    (sequence / 256) as u8
+    let [back_low, back_high] = back.to_le_bytes();
+    let [sequence_low, sequence_high] = sequence.to_le_bytes();
+    [back_low, back_high, sequence_low, sequence_high]
 }
 
-// Byte i of the area to be sent.
-fn area_at(payload: &[u8], sequence: u16, size: usize, i: usize) -> u8
-    requires { (length payload.now + 4 ≤ size) × (size ≤ 65535) × (i < size) }
-    ensures { (result ≡ at (area_sent size payload.now sequence) i) × (result < 256) }
+// Byte i of the area to be sent, whose last bytes are this trailer.
+#[tactic(auto, using(crate::specs::Frame::Trailer::sent_zero, crate::specs::Frame::Trailer::sent_payload, crate::specs::Frame::Trailer::sent_trailer))]
+fn area_at(payload: &[u8], tail: &[u8; 4], size: usize, i: usize) -> u8
+    requires { (length payload.now + 4 ≤ size) × (i < size) }
+    ensures { (sequence : ℕ) → tail.now ≡ trailer (length payload.now) sequence → result ≡ at (area_sent size payload.now sequence) i }
 {
     let end = size - 4;
     let start = end - payload.len();
     if i < start {
-        return 0;
+        0
+    } else if i < end {
+        payload[i - start]
+    } else {
+        tail[i - end]
     }
-    if i < end {
-        return payload[i - start];
-    }
-    trailer_at(payload.len() as u16, sequence, i - end)
 }
 
 // Fills the message of a word with the area's bytes from `start` on.
@@ -46,10 +40,9 @@ pub fn fill_message(payload: &[u8], sequence: u16, size: usize, start: usize, me
     requires { (length payload.now + 4 ≤ size) × (size ≤ 65535) × (start + length message.old ≤ size) }
     ensures { Copied (length message.old) (area_byte (area_sent size payload.now sequence) start) message.new }
 {
-    let mut i = 0;
-    while i < message.len() {
-        message[i] = area_at(payload, sequence, size, start + i);
-        i += 1;
+    let tail = trailer_of(payload.len() as u16, sequence);
+    for (i, byte) in message.iter_mut().enumerate() {
+        *byte = area_at(payload, &tail, size, start + i);
     }
 }
 
@@ -58,39 +51,23 @@ pub fn two_at(area: &[u8], i: usize) -> u16
     requires { i + 1 < length area.now }
     ensures { result ≡ two_at area.now i }
 {
-    area[i] as u16 + 256 * (area[i + 1] as u16)
-}
-
-// Whether the first bytes are zeros.
-fn zeros_before(area: &[u8], end: usize) -> bool
-    requires { end ≤ length area.now }
-    ensures { result ≡ zeros_before end area.now }
-{
-    let mut i = 0;
-    while i < end {
-        if area[i] != 0 {
-            return false;
-        }
-        i += 1;
-    }
-    true
+    u16::from_le_bytes([area[i], area[i + 1]])
 }
 
 // Whether the payload that the trailer tells of lies within the area, with nothing but zeros before it.
+#[tactic(auto, using(crate::specs::Frame::Trailer::good_long, crate::specs::Frame::Trailer::good_within, crate::specs::Frame::Trailer::zeros_below))]
 pub fn is_good(area: &[u8]) -> bool
     requires { 4 ≤ length area.now }
     ensures { result ≡ trailer_good (length area.now) area.now }
 {
     let room = area.len() - 4;
     let back = two_at(area, room) as usize;
-    if room < back {
-        return false;
-    }
-    zeros_before(area, room - back)
+    back <= room && all_below(&area[..room - back], 1)
 }
 
 // The payload of an accepted frame, as that part of the area itself: the `back` bytes that end four before its end. The part is empty
 // where the frame was refused, and where an area has not so many bytes.
+#[tactic(auto, using(crate::specs::Frame::Trailer::payload_short, crate::specs::Frame::Trailer::payload_there), unfolding(crate::specs::Frame::payload_of))]
 pub fn payload<'a>(area: &'a [u8], answer: Result<Received, ReceiveError>) -> &'a [u8]
     ensures { HandsBack area.now answer result.now }
 {

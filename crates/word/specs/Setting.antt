@@ -89,8 +89,20 @@ at_most s a = elim (ℕ_discrete s.m 3) [
       omega arith
 ]
 
+-- the limits that a call needs, one by one, for a tactic to find
 pub has_room : (s : Setting) → T (allowed s) → s.r < s.n
 has_room s ok = (limits s ok).room
+
+pub most_places : (s : Setting) → T (allowed s) → s.n ≤ 255
+most_places s ok = at_most s (limits s ok)
+
+pub most_checks : (s : Setting) → T (allowed s) → s.r ≤ 16
+most_checks s ok = (limits s ok).high
+
+pub low_start : (s : Setting) → T (allowed s) → s.b ≤ 1
+low_start s ok = (limits s ok).start
+
+pub ruleset in_limits = (has_room, most_places, most_checks, low_start)
 
 -- a test of symbols against the code's count of them is the paper's
 pub own_symbols : (s : Setting) → T (allowed s) → (q : ℕ) (w : List ℕ) → q ≡ 2 ^ wide s.m → below q w ≡ below (2 ^ s.m) w

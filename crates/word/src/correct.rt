@@ -28,6 +28,7 @@ fn correct_places(s: Setting, marks: &[u8], f: usize, sums: [u8; 16], word: &mut
 }
 
 // Corrects the received word in `out`, which is no codeword, to the one with 2e + f ≤ r, where there is one, and gives its figures.
+#[tactic(auto, using(crate::specs::Setting::in_limits))]
 fn correct_errors(
     s: Setting,
     received: &[u8],
@@ -52,6 +53,7 @@ fn correct_errors(
 
 // Puts the codeword with 2e + f ≤ r into `out`, where there is one, and gives its figures. The syndromes are taken of what the word leaves over, which has at most
 // sixteen symbols.
+#[tactic(auto, using(crate::specs::Setting::in_limits))]
 pub fn correct_word(
     s: Setting,
     f: usize,

@@ -25,9 +25,8 @@ pub use clean::is_clean;
 use correct::correct_word;
 pub use limits::is_allowed;
 use limits::{check_message, check_part, check_received};
-use look::{Look, look_at};
+use look::{Look, look_alone};
 use map::note_changes;
-use tables::{Tables, decode_part_by, prepare};
 
 // What a word code is set to: m bits a symbol, n symbols a word, r check symbols, and b, the power of a at which its zeros start.
 #[derive(Clone, Copy)]
@@ -88,6 +87,7 @@ pub fn encode(s: Setting, message: &[u8], word: &mut [u8]) -> Result<(), InputEr
 }
 
 // What a damaged word is answered: its correction is put at the front of the work space and its map is written, where there is one.
+#[tactic(auto, using(crate::specs::Setting::in_limits))]
 fn answer(
     s: Setting,
     f: usize,
@@ -109,6 +109,7 @@ fn answer(
 }
 
 // Corrects a word that has been looked at where it stands. Nothing but the map is written unless it is damaged.
+#[tactic(auto, using(crate::specs::Setting::in_limits))]
 fn in_place(
     s: Setting,
     seen: Look,
@@ -134,6 +135,7 @@ fn in_place(
 
 // The same with the message put into a part of its own, and the received word only read. A function of its own, since `in_place` reads what it
 // writes, and leaves a clean word uncopied.
+#[tactic(auto, using(crate::specs::Setting::in_limits))]
 fn to_part(
     s: Setting,
     seen: Look,
@@ -174,9 +176,7 @@ pub fn decode(
     ensures { Decodes s word.old marks.now map.old result word.new map.new }
 {
     check_received(s, word, marks, map)?;
-    let mut tables = Tables::none();
-    prepare(s, &mut tables);
-    let seen = look_at(s, &tables, word, marks);
+    let seen = look_alone(s, word, marks);
     in_place(s, seen, word, marks, map)
 }
 
@@ -192,7 +192,6 @@ pub fn decode_part(
     ensures { DecodesPart s received.now marks.now part.old map.old result part.new map.new }
 {
     check_part(s, received, marks, part, map)?;
-    let mut tables = Tables::none();
-    prepare(s, &mut tables);
-    decode_part_by(s, &tables, received, marks, part, map)
+    let seen = look_alone(s, received, marks);
+    to_part(s, seen, received, marks, part, map)
 }

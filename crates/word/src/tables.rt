@@ -1,6 +1,7 @@
 // The same calls for many words of one setting, as a frame's: the tables of the check symbols are made once and lent to each word, and the
 // caller has made all checks. What these calls ask is in their `requires`.
 ghost use Rattle.std.specs.Prelude.{◌≡◌, ◌≤◌, length};
+ghost use Rattle.checks.specs.Prepared.{ChecksBy};
 ghost use Rattle.word.specs.Setting.{message_size};
 ghost use Rattle.word.specs.Code.{encoded};
 ghost use Rattle.word.specs.Refusals.{MessageChecked, Checked};
@@ -15,7 +16,8 @@ use checks::left::agree;
 use checks::register;
 pub use checks::register::Tables;
 
-// Makes the tables of a setting.
+// Makes the tables of a setting. Setting and tables stay two: a struct of both would have each call ask that the struct be of its own setting,
+// where it asks `Tabled` now.
 pub fn prepare(s: Setting, tables: &mut Tables)
     requires { (s.b ≤ 1) × (s.r ≤ 16) }
     ensures { Tabled s tables.new }
@@ -24,6 +26,7 @@ pub fn prepare(s: Setting, tables: &mut Tables)
 }
 
 // `encode`, by tables.
+#[tactic(auto, using(crate::specs::Setting::in_limits))]
 pub fn encode_by(s: Setting, tables: &Tables, message: &[u8], word: &mut [u8])
     requires { MessageChecked s message.now word.old × Tabled s tables.now }
     ensures { word.new ≡ encoded s message.now }
@@ -44,11 +47,15 @@ pub fn decode_part_by(
     requires { Checked s marks.now received.now × Tabled s tables.now × (length part.old ≡ message_size s) × (length map.old ≡ s.n) }
     ensures { DecodesPart s received.now marks.now part.old map.old result part.new map.new }
 {
-    let seen = look_at(s, tables, received, marks);
+    let by_tables = |message: &[u8]| -> [u8; 16]
+        ensures { ChecksBy s.r tables.entry.now.low tables.entry.now.high message.now result }
+    { register::check_symbols_by(s.r, tables, message) };
+    let seen = look_at(s, received, marks, by_tables);
     to_part(s, seen, received, marks, part, map)
 }
 
 // `is_clean`, by tables, of a word whose symbols stand `step` apart in the slots, from the one at `first` on. They are read where they stand.
+#[tactic(auto, using(crate::specs::Setting::in_limits))]
 pub fn is_clean_by(s: Setting, tables: &Tables, slots: &[u8], step: usize, first: usize) -> bool
     requires { Stands s step first slots.now × Tabled s tables.now }
     ensures { result ≡ is_codeword s (standing s step first slots.now) }

@@ -2,13 +2,13 @@
 -- Assumes nothing.
 use Rattle.std.specs.Prelude.{◌≡◌, refl, Bool, true, false, Ok, List, [], ◌++◌, ℕ, ◌+◌, ◌-◌, ◌≤◌, ◌<◌, take, drop, replicate, eqb}
 use Rattle.std.proofs.Math.Path.{sym}
-use Rattle.std.proofs.Common.{ap, ◌∙◌, eqb→eq}
+use Rattle.std.proofs.Common.{ap, ◌∙◌, eqb→eq, get_or-take, length-take-le}
 use native.Mathlib.Omega.{arith}
 use borrow.Author.Tests.{le-leb, lt-leb, eq-eqb}
 use Rattle.std.proofs.Math.ListN.{length, length-append, get_or-append}
 use Rattle.std.proofs.lemmas.List.{length-replicate, get_or-replicate}
 use Rattle.std.proofs.Math.Seq.{get_or-append-add}
-use Rattle.algebra.specs.Tests.{at, each, each_at, each_all, passed}
+use Rattle.algebra.specs.Tests.{at, each_at, each_all, below, below_at, below_all, passed}
 use Rattle.frame.specs.Frame.{trailer, two_at, area_sent, zeros_before, trailer_good, payload_in, payload_of}
 use Rattle.frame.specs.declared.setting.Received.{Received}
 
@@ -52,17 +52,23 @@ module _ (A : ℕ) (payload : List ℕ) (sequence : ℕ) (fits : length payload 
 
 -- ---- zeros before the payload
 
-pub zeros_stop : (end : ℕ) (area : List ℕ) (i : ℕ) → i < end → (at area i ≡ 0 → ⊥) → false ≡ zeros_before end area
-unfolding zeros_before
-zeros_stop end area i l h = go (each end λ k. eqb (at area k) 0) refl
-  where
-    go : (b : Bool) → (each end λ k. eqb (at area k) 0) ≡ b → false ≡ b
-    go true e = absurd (h (eqb→eq (at area i) 0 (each_at end (λ k. eqb (at area k) 0) (rw e tt) i l)))
-    go false e = refl
-
 pub zeros_all : (end : ℕ) (area : List ℕ) → ((i : ℕ) → i < end → at area i ≡ 0) → true ≡ zeros_before end area
 unfolding zeros_before
 zeros_all end area h = sym (passed _ (each_all end (λ k. eqb (at area k) 0) λ i l. rw (eq-eqb (at area i) 0 (h i l)) tt))
+
+-- as the code tests it: bytes below 1
+pub zeros_below : (end : ℕ) (area : List ℕ) → end ≤ length area → below 1 (take end area) ≡ zeros_before end area
+unfolding zeros_before
+zeros_below end area l = same (below 1 (take end area)) (zeros_before end area) refl refl
+  where
+    same : (a b : Bool) → below 1 (take end area) ≡ a → zeros_before end area ≡ b → a ≡ b
+    same true b e h = zeros_all end area (λ i k. let z : at (take end area) i < 1 = below_at 1 (take end area) (rw e tt) i (omega arith) in sym (get_or-take end area i 0 k) ∙ omega arith) ∙ h
+    same false false e h = refl
+    same false true e h = sym e ∙ passed _ (below_all 1 (take end area) λ i k.
+        let inside : i < end = omega (arith, length-take-le end area l) in
+        let zero : at area i ≡ 0 = eqb→eq (at area i) 0 (each_at end (λ j. eqb (at area j) 0) (rw h tt) i inside) in
+        let here : at (take end area) i ≡ at area i = get_or-take end area i 0 inside in
+        omega arith)
 
 -- ---- the trailer's test
 

@@ -7,11 +7,6 @@ use Rattle.word.specs.Setting.{limits, at_most}
 use Rattle.word.specs.Correcting.{corrects_front, answered_found}
 use Rattle.word.proofs.answer.Goals as goal
 
-pub slice_bounds-correct_word-end : goal.slice_bounds-correct_word-end
-slice_bounds-correct_word-end c =
-    let pre = c.requires in
-    omega (arith, pre.1, at_most _ (limits _ pre.0.checked.setting))
-
 pub slice_bounds-correct_word-end-2 : goal.slice_bounds-correct_word-end-2
 slice_bounds-correct_word-end-2 c =
     let pre = c.requires in

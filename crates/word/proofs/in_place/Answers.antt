@@ -1,9 +1,7 @@
 -- `in_place` meets its contract: the map is cleared first; a clean word is its own correction, and else `answer` says what the paper says, and an
 -- accepted word is copied over the received one.
 use mathlib.Core.Path.{◌∙◌}
-use native.Mathlib.Omega.{arith}
 use Rattle.std.proofs.lemmas.Result.{err_from_is_err_and}
-use Rattle.word.specs.Setting.{limits, at_most}
 use Rattle.word.specs.Map.Laws.{changes_self, cleared}
 use Rattle.word.specs.Met.{decode_found, decode_lost}
 use Rattle.word.proofs.in_place.Goals as goal
@@ -25,11 +23,6 @@ returns-in_err-figures-in-Damaged c =
     let no = c.answer.ensures.refused _ c.in_err-figures-in-Damaged.was in
     let p = err_from_is_err_and c.from_residual.result c.from_residual.ensures.1 in
     rw (p.1, p.2, no.0) (decode_lost _ _ _ _ pre.1 pre.0.fine _ no.1 (no.2 ∙ cleared _ c.args.map.now c.args.word.now _ c.fill.ensures pre.1 pre.0.fine.size))
-
-pub copy-requires : goal.copy-requires
-copy-requires c =
-    let k = c.requires.0.fine in
-    omega (arith, k.size, at_most _ (limits _ k.setting), c.answer.ensures.size)
 
 pub returns-in_ok-figures-in-Damaged : goal.returns-in_ok-figures-in-Damaged
 returns-in_ok-figures-in-Damaged c =

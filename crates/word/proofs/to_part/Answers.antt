@@ -1,9 +1,7 @@
 -- `to_part` meets its contract: the map is cleared first; the message of a clean word is its front, and else `answer` says what the paper says,
 -- and the front of an accepted word is copied to the part.
 use mathlib.Core.Path.{◌∙◌}
-use native.Mathlib.Omega.{arith}
 use Rattle.std.proofs.lemmas.Result.{err_from_is_err_and}
-use Rattle.word.specs.Setting.{limits, at_most}
 use Rattle.word.specs.Map.Laws.{changes_self, cleared}
 use Rattle.word.specs.Met.{part_found, part_lost}
 use Rattle.word.specs.Correcting.{message_front}
@@ -27,11 +25,6 @@ returns-in_err-figures-in-Damaged c =
     let no = c.answer.ensures.refused _ c.in_err-figures-in-Damaged.was in
     let p = err_from_is_err_and c.from_residual.result c.from_residual.ensures.1 in
     rw (p.1, p.2, no.0) (part_lost _ _ _ _ _ pre.1 pre.2 pre.0.fine _ no.1 (no.2 ∙ cleared _ c.args.map.now c.args.received.now _ c.fill.ensures pre.2 pre.0.fine.size))
-
-pub copy-requires-in-Damaged : goal.copy-requires-in-Damaged
-copy-requires-in-Damaged c =
-    let pre = c.requires in
-    omega (arith, pre.1, pre.0.fine.size, at_most _ (limits _ pre.0.fine.setting), c.answer.ensures.size)
 
 pub returns-in_ok-figures-in-Damaged : goal.returns-in_ok-figures-in-Damaged
 returns-in_ok-figures-in-Damaged c =

@@ -1,29 +1,7 @@
 -- `fill_message` meets its contract. The loop's invariant: the first i bytes of the message are the area's from `start` on.
-use mathlib.Core.Path.{refl}
 use native.Mathlib.Omega.{arith}
-use Rattle.algebra.specs.Lists.{copying_none, copying_more, copying_all}
+use Rattle.algebra.specs.Lists.{copying_all}
 use Rattle.frame.proofs.trailer.fill_message.Goals as goal
-
-pub loop-i-init : goal.loop-i-init
-loop-i-init c = copying_none _ _ _ refl
-
-pub overflow_add-start : goal.overflow_add-start
-overflow_add-start c = omega (arith, c.loop-i.invariant.filled.size)
-
-pub area_at-requires : goal.area_at-requires
-area_at-requires c = omega (arith, c.loop-i.invariant.filled.size)
-
-pub overflow_add-i : goal.overflow_add-i
-overflow_add-i c = omega (arith, c.loop-i.invariant.filled.size)
-
-pub loop-i-smaller : goal.loop-i-smaller
-loop-i-smaller c = omega (arith, c.loop-i.invariant.filled.size)
-
-pub loop-i-preserved : goal.loop-i-preserved
-loop-i-preserved c = copying_more _ _ _ _ _ (omega (arith, c.loop-i.invariant.filled.size)) c.area_at.ensures.0 c.area_at.ensures.1 c.loop-i.invariant
-
-pub shape_of-message : goal.shape_of-message
-shape_of-message c = c.loop-i.invariant.filled.size
 
 pub returns : goal.returns
 returns c = copying_all _ _ _ _ (omega (arith, c.loop-i.invariant.filled.size)) c.loop-i.invariant

@@ -6,14 +6,8 @@ use Rattle.word.specs.Setting.{limits}
 use Rattle.word.specs.Correcting.{copied, summed}
 use Rattle.word.proofs.correct.correct_word.Goals as goal
 
-pub slice_bounds-rest-end : goal.slice_bounds-rest-end
-slice_bounds-rest-end c = omega (arith, (limits _ c.requires.0.checked.setting).high)
-
 pub slice_bounds-syndromes-end : goal.slice_bounds-syndromes-end
 slice_bounds-syndromes-end c = sym (length-take-le _ _ (omega (arith, (limits _ c.requires.0.checked.setting).high)))
-
-pub syndromes-sums-requires : goal.syndromes-sums-requires
-syndromes-sums-requires c = (limits _ c.requires.0.checked.setting).start
 
 pub correct_errors-requires : goal.correct_errors-requires
 correct_errors-requires c =

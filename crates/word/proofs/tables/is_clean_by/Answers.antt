@@ -1,20 +1,9 @@
 -- `tables::is_clean_by` meets its contract: a word is a codeword exactly where the check symbols of its message stand behind it.
 use mathlib.Core.Path.{◌≡◌}
-use native.Mathlib.Omega.{arith}
 use lib.ListN.{length}
 use borrow.Author.Rules.{rules}
-use Rattle.word.specs.Setting.{limits, at_most}
 use Rattle.word.specs.Looking.{agreed}
 use Rattle.word.proofs.tables.is_clean_by.Goals as goal
-
-pub overflow_sub-k : goal.overflow_sub-k
-overflow_sub-k c = omega (arith, (limits _ c.requires.0.setting).room)
-
-pub agree-requires : goal.agree-requires
-agree-requires c =
-    let given = c.requires.0 in
-    let limit = limits _ given.setting in
-    (limit.high, omega (arith, at_most _ limit), record { each = λ i l. given.within i (omega (arith, limit.room)) })
 
 pub returns : goal.returns
 returns c =
