@@ -15,7 +15,7 @@ mod order;
 use memory::{count_unseen, see, seen_at, slide};
 use order::{Order, compare, lag_of, lead_of};
 
-// A caller makes it by `fresh` and hands it to every call that receives. The C face lends it, so its fields keep their order.
+// A caller makes it by `fresh` and hands it to every call that receives. What `radio` lends to C has the same fields in the same order.
 #[repr(C)]
 #[derive(Clone, Copy, Debug, PartialEq, Eq, Default)]
 pub struct Record {
