@@ -1,23 +1,17 @@
 // From the input to the text: the frame is received with no marks into work space, and what it was answered is told.
-ghost use Rattle.std.specs.Prelude.{◌≡◌, ◌+◌, ◌≤◌, length};
+ghost use Rattle.std.specs.Prelude.{◌+◌, ◌≤◌, length};
 ghost use Rattle.frame.specs.Frame.{receiving};
 ghost use Rattle.frame.specs.Frame.Limits.{FrameAllowed};
 ghost use Rattle.text.specs.Page.{Writes};
 ghost use Rattle.reader.specs.Promises.{Reports};
-ghost use Rattle.reader.specs.Spoken.{blank, answer_to, told, spoken};
+ghost use Rattle.reader.specs.Spoken.{answer_to, told, spoken};
 
 use crate::head::framing;
 use crate::lines::put_frame;
+use buffers::filled;
 use frame::numbers::number_of;
 use link::{Framing, is_allowed};
 use text::Page;
-
-// Work space for a frame, filled with zeros. A call of its own keeps the array out of its callers' proofs.
-fn work_space() -> [u8; 4080]
-    ensures { (result ≡ blank 4080) × (length result ≡ 4080) }
-{
-    [0; 4080]
-}
 
 // Receives a frame and writes what it was answered.
 fn put_answer(
@@ -45,9 +39,9 @@ fn put_unmarked(f: Framing, slots: &[u8], page: &mut Page)
     requires { FrameAllowed f × (page.old.end + 30000 ≤ length page.old.text.now) }
     ensures { Writes (told f.depth (answer_to f slots.now)) page.old page.new }
 {
-    let marks = work_space();
-    let mut area = work_space();
-    let mut map = work_space();
+    let marks: [u8; 4080] = filled(0);
+    let mut area: [u8; 4080] = filled(0);
+    let mut map: [u8; 4080] = filled(0);
     let count = f.n * f.depth;
     let size = f.depth * (f.n - f.r);
     put_answer(

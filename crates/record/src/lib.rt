@@ -15,7 +15,7 @@ mod order;
 use memory::{count_unseen, see, seen_at, slide};
 use order::{Order, compare, lag_of, lead_of};
 
-// A caller makes it by `fresh` and hands it to every call that receives.
+// A caller makes it by `fresh` and hands it to every call that receives. What `radio` lends to C has the same fields in the same order.
 #[derive(Clone, Copy, Debug, PartialEq, Eq, Default)]
 pub struct Record {
     pub accepted: bool,

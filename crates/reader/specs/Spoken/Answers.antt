@@ -1,9 +1,10 @@
 -- What is said of a frame's answer and of an input, one law for each return of the code.
 -- Assumes nothing.
-use Rattle.std.specs.Prelude.{◌≡◌, refl, Ok, Err, Bool, true, false, List, [], ◌∷◌, ℕ, zero, suc, ◌+◌, ◌-◌, ◌≤◌, ◌<◌, leb, length, take, drop, if◌then◌else◌}
-use Rattle.std.proofs.Common.{sym, ap, not-suc-le-zero, le_of_suc-le-suc, arith, length-take, length-take-le}
+use Rattle.std.specs.Prelude.{◌≡◌, Ok, Err, Bool, true, false, List, [], ℕ, ◌+◌, ◌-◌, ◌≤◌, ◌<◌, leb, length, take, drop, replicate, if◌then◌else◌}
+use Rattle.std.proofs.Common.{sym, ap, arith, length-take, length-take-le}
 use borrow.Author.Tests.{lt-ltb, le-ltb, ne_eqb}
 use Rattle.std.proofs.Math.ListN.{length-drop}
+use Rattle.std.proofs.lemmas.List.{length-replicate, take-replicate}
 use Rattle.std.proofs.Math.Seq.{take_all}
 use Rattle.algebra.specs.Tests.{at}
 use Rattle.frame.specs.Frame.{slot_count, area_size, allowed_frame, ReceiveOutcome, receive_outcome, receiving, error_number, payload_in, payload_of}
@@ -63,20 +64,13 @@ module _ (input : List ℕ) where
 
 -- ---- the work space
 
--- zeros from the front of zeros
-pub blank_front : (n k : ℕ) → n ≤ k → take n (blank k) ≡ blank n
-unfolding blank
-blank_front zero k l = refl
-blank_front (suc n) zero l = absurd (not-suc-le-zero l)
-blank_front (suc n) (suc k) l = ap (λ (z : List ℕ). 0 ∷ z) (blank_front n k (le_of_suc-le-suc l))
-
 -- a part of the work space is as long as asked
-pub part_size : (n : ℕ) (w : List ℕ) → n ≤ 4080 → length w ≡ 4080 → n ≡ length (take n w)
-part_size n w l e = sym (length-take-le n w (omega arith))
+pub part_size : (n : ℕ) (w : List ℕ) → n ≤ 4080 → w ≡ replicate 4080 0 → n ≡ length (take n w)
+part_size n w l e = sym (length-take-le n w (omega (arith, ap length e, length-replicate {A = ℕ} 4080 0)))
 
 -- the work space's parts are the marks, the area and the map that are meant
-pub unmarked : (f : Framing) (slots w₁ w₂ w₃ : List ℕ) → FrameAllowed f → w₁ ≡ blank 4080 → w₂ ≡ blank 4080 → w₃ ≡ blank 4080
+pub unmarked : (f : Framing) (slots w₁ w₂ w₃ : List ℕ) → FrameAllowed f → w₁ ≡ replicate 4080 0 → w₂ ≡ replicate 4080 0 → w₃ ≡ replicate 4080 0
     → receiving f slots (take (slot_count f) w₁) (take (area_size f) w₂) (take (slot_count f) w₃) ≡ answer_to f slots
-unfolding answer_to
+unfolding answer_to blank
 unmarked f slots w₁ w₂ w₃ l e g h =
-    rw (e, g, h, blank_front (slot_count f) 4080 (slots_few f l), blank_front (area_size f) 4080 (area_few f l))
+    rw (e, g, h, take-replicate {X = ℕ} (slot_count f) 4080 0 (slots_few f l), take-replicate {X = ℕ} (area_size f) 4080 0 (area_few f l))

@@ -19,30 +19,30 @@ slice_bounds-marks-end c = omega (arith, slots_few _ c.requires.0)
 
 pub slice_bounds-put_answer-end : goal.slice_bounds-put_answer-end
 slice_bounds-put_answer-end c =
-    part_size _ _ (slots_few _ c.requires.0) c.work_space-marks.ensures.1
+    part_size _ _ (slots_few _ c.requires.0) c.filled-marks.ensures
 
 pub slice_bounds-area-end : goal.slice_bounds-area-end
 slice_bounds-area-end c = omega (arith, area_few _ c.requires.0)
 
 pub slice_bounds-put_answer-end-2 : goal.slice_bounds-put_answer-end-2
 slice_bounds-put_answer-end-2 c =
-    part_size _ _ (area_few _ c.requires.0) c.work_space-area.ensures.1
+    part_size _ _ (area_few _ c.requires.0) c.filled-area.ensures
 
 pub slice_bounds-map-end : goal.slice_bounds-map-end
 slice_bounds-map-end c = omega (arith, slots_few _ c.requires.0)
 
 pub slice_bounds-put_answer-end-3 : goal.slice_bounds-put_answer-end-3
 slice_bounds-put_answer-end-3 c =
-    part_size _ _ (slots_few _ c.requires.0) c.work_space-map.ensures.1
+    part_size _ _ (slots_few _ c.requires.0) c.filled-map.ensures
 
 pub put_answer-requires : goal.put_answer-requires
 put_answer-requires c =
     let few = c.requires.0 in
-    let area = part_size (area_size c.args.f) c.work_space-area.result (area_few _ few) c.work_space-area.ensures.1 in
-    let map = part_size (slot_count c.args.f) c.work_space-map.result (slots_few _ few) c.work_space-map.ensures.1 in
+    let area = part_size (area_size c.args.f) c.filled-area.result (area_few _ few) c.filled-area.ensures in
+    let map = part_size (slot_count c.args.f) c.filled-map.result (slots_few _ few) c.filled-map.ensures in
     omega (arith, few.few, area_few _ few, slots_few _ few)
 
 pub returns : goal.returns
 returns c =
     let few = c.requires.0 in
-    rw (unmarked _ _ _ _ _ few c.work_space-marks.ensures.0 c.work_space-area.ensures.0 c.work_space-map.ensures.0) at c.put_answer.ensures
+    rw (unmarked _ _ _ _ _ few c.filled-marks.ensures c.filled-area.ensures c.filled-map.ensures) at c.put_answer.ensures
