@@ -106,9 +106,6 @@ pub first_below : (m b x : ℕ) → x ≡ root m b 0 → x < 2 ^ wide m
 first_below m b x e = rw e (pow_below m (b + 0))
 
 -- the words are the code's polynomial
-pub growing_all : (m b r j x y : ℕ) (l : List ℕ) → r ≡ j → Growing m b j x y l → bytes x y ≡ divisor m b r
-growing_all m b r j x y l e g = rw e g.polynomial
-
 -- that of EN 300 421
 pub stored : (m b r : ℕ) → m ≡ 8 → b ≡ 0 → r ≡ 16 → bytes 585135094770437435 4261586547732201891 ≡ divisor m b r
 unfolding divisor bytes byte whole tabulate

@@ -2,7 +2,6 @@
 -- Assumes nothing.
 use Rattle.std.specs.Prelude.{◌≡◌, refl, Bool, true, List, ◌∷◌, ℕ, zero, suc, ◌+◌, ◌-◌, ◌*◌, ◌/◌, ◌%◌, ◌^◌, ◌<◌, ◌≤◌, replicate, set}
 use Rattle.std.proofs.Common.{sym, ap, ◌∙◌, arith, pow-add, div-one}
-use Rattle.std.specs.Int.Bits.{bit_xor}
 use Rattle.std.proofs.Math.ListN.{get_or-eq_default}
 use Rattle.algebra.specs.Tests.{at}
 use Rattle.algebra.specs.Register.{generator, generator_length, behind}
@@ -31,9 +30,6 @@ pub record Enough (alone : Bool) (r : ℕ) : Type 0 where
 
 pub alone_zero : (alone : Bool) (x : ℕ) → x ≡ 0 → Alone alone x
 alone_zero alone x e = record { zero_high = λ _. e }
-
-pub alone_sum : (alone : Bool) (x y z : ℕ) → z ≡ bit_xor x y → Alone alone x → Alone alone y → Alone alone z
-alone_sum alone x y z e h k = record { zero_high = λ one. rw (e, h.zero_high one, k.zero_high one) }
 
 pub alone_moved : (alone : Bool) (x y : ℕ) → (x ≡ 0 → y ≡ 0) → Alone alone x → Alone alone y
 alone_moved alone x y f h = record { zero_high = λ one. f (h.zero_high one) }

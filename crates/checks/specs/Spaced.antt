@@ -76,18 +76,6 @@ pub record Agree (checks : List ℕ) (r : ℕ) (slots : List ℕ) (step first k 
   pub same : t ≡ true → (j : ℕ) → j < r → at checks j ≡ behind_at slots step first k j
   pub other : t ≡ false → (j : ℕ) × (j < r) × (at checks j ≢ behind_at slots step first k j)
 
-pub agree_all : (checks : List ℕ) (r : ℕ) (slots : List ℕ) (step first k i : ℕ) → r ≤ i → ((j : ℕ) → j < i → at checks j ≡ behind_at slots step first k j) → Agree checks r slots step first k true
-agree_all checks r slots step first k i l h = record { same = λ _ j a. h j (omega arith); other = λ e. absurd (differ e) }
-  where
-    differ : true ≡ false → ⊥
-    differ e = let z : ◌≡◌ {A = ℕ} 0 1 = cc in omega arith
-
-pub agree_not : (checks : List ℕ) (r : ℕ) (slots : List ℕ) (step first k i : ℕ) → i < r → at checks i ≢ behind_at slots step first k i → Agree checks r slots step first k false
-agree_not checks r slots step first k i l ne = record { same = λ e. absurd (differ e); other = λ _. (i, l, ne) }
-  where
-    differ : false ≡ true → ⊥
-    differ e = let z : ◌≡◌ {A = ℕ} 0 1 = cc in omega arith
-
 -- a front of them, and the rest
 module _ (step first n : ℕ) (slots : List ℕ) (k : ℕ) (l : k ≤ n) where
   pub spaced_front : take k (spaced step first n slots) ≡ spaced step first k slots

@@ -3,7 +3,7 @@
 ghost use Rattle.std.specs.Prelude.{◌≡◌, ◌*◌, ◌/◌, ◌%◌, ◌<◌, length};
 ghost use Rattle.std.specs.Int.Bits.{bit_xor};
 ghost use Rattle.algebra.specs.Bytes.{whole};
-ghost use Rattle.checks.specs.Rows.{both, four};
+ghost use Rattle.checks.specs.Rows.{both, after_symbol, after_symbols};
 ghost use Rattle.checks.specs.Division.{Divided};
 ghost use Rattle.checks.specs.OneWord.{Alone};
 
@@ -23,7 +23,7 @@ fn rows<T: Table>(table: &T, k: usize, f: usize) -> Pair
 // The register after one symbol more.
 pub fn fed<T: Table>(table: &T, p: Pair, symbol: u64) -> Pair
     requires { symbol < 256 }
-    ensures number { whole result.low result.high ≡ bit_xor (whole p.low p.high / 256) (both (T.low table.now) (T.high table.now) 0 (bit_xor symbol (p.low % 256))) }
+    ensures number { whole result.low result.high ≡ after_symbol (T.low table.now) (T.high table.now) p.low p.high symbol }
     ensures upper { Alone T.alone p.high → Alone T.alone result.high }
 {
     let f = (symbol ^ p.low % 256) as usize;
@@ -32,7 +32,7 @@ pub fn fed<T: Table>(table: &T, p: Pair, symbol: u64) -> Pair
 
 // The register after four symbols more, the first in the lowest byte of s.
 pub fn fed_four<T: Table>(table: &T, p: Pair, s: u64) -> Pair
-    ensures number { whole result.low result.high ≡ bit_xor (whole p.low p.high / 4294967296) (four (T.low table.now) (T.high table.now) (bit_xor s (p.low % 4294967296))) }
+    ensures number { whole result.low result.high ≡ after_symbols (T.low table.now) (T.high table.now) p.low p.high s }
     ensures upper { Alone T.alone p.high → Alone T.alone result.high }
 {
     let x = (s ^ p.low % 4294967296) as usize;

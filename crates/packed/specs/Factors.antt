@@ -3,10 +3,10 @@
 use Rattle.std.specs.Prelude.{◌≡◌, List, length, set}
 use Rattle.std.proofs.Math.Path.{sym, ap}
 use Rattle.std.proofs.Math.Decide.{ℕ_discrete}
-use Rattle.std.proofs.Common.{length-set, get_or-set_same, get_or-set_other, ap₂, ◌∙◌, div-one, add_comm, one-mul, zero-mul, mul-le-mul, arith, shr-shr}
-use Prim.Native.Nat.{ℕ, suc, ◌+◌, ◌-◌, ◌*◌, ◌/◌, ◌%◌, ◌^◌, ◌<◌, ◌≤◌}
+use Rattle.std.proofs.Common.{length-set, get_or-set_same, get_or-set_other, ap₂, ◌∙◌, div-one, add_comm, one-mul, zero-mul, arith, shr-shr}
+use Prim.Native.Nat.{ℕ, suc, ◌+◌, ◌-◌, ◌*◌, ◌/◌, ◌%◌, ◌^◌, ◌<◌}
 use Rattle.std.specs.Int.Bits.{bit_xor, bit_and}
-use Rattle.std.proofs.lemmas.Nat.{and_mask, and_le_r}
+use Rattle.std.proofs.lemmas.Nat.{and_mask}
 use Rattle.std.proofs.Math.Pow.{field, mod-mod-pow}
 use Rattle.algebra.specs.Tests.{at}
 use Rattle.algebra.specs.Xor.{◌⊕◌, on_bit, assoc, zero_r}
@@ -42,12 +42,6 @@ term_at k c x i l h u =
     ∙ ap (λ (z : ℕ). z % 256 % 2) (shr-shr x k (8 * i) ∙ ap (λ (z : ℕ). x / 2 ^ z) (add_comm k (8 * i)) ∙ sym (shr-shr x (8 * i) k)) ∙ bit_of k (7 - k) (x / 2 ^ (8 * i)) (omega arith))
     ∙ on_bit (λ (d : ℕ). d * c ≡ only d c) (zero-mul c) (one-mul c) (byte x i / 2 ^ k)
 
-pub term_fits : (c x : ℕ) → c < 256 → bit_and x 72340172838076673 * c < 2 ^ 64
-term_fits c x h =
-    let l : c ≤ 255 = omega arith in
-    let e : bit_and x 72340172838076673 * c ≤ 72340172838076673 * 255 = mul-le-mul (and_le_r x 72340172838076673) l in
-    omega arith
-
 -- ---- a factor's products by the powers of a
 
 pub record Factored (m x : ℕ) (l : List ℕ) : Type 0 where
@@ -77,9 +71,6 @@ factoring_more m x n l y some h e f = record {
     | no z ↦ get_or-set_other l n k y 0 z ∙ f.done k (omega arith)
   ];
 }
-
-pub factored : (m x n : ℕ) (l : List ℕ) → 8 ≤ n → Factoring m x n l → Factored m x l
-factored m x n l h f = record { each = λ k u. f.done k (omega arith) }
 
 prod_linear : (m x : ℕ) → Linear (λ y. prod m y x)
 unfolding ◌⊕◌

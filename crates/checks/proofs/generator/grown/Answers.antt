@@ -1,6 +1,6 @@
 -- `checks::generator::grown` meets its contract. The invariant: g has the first j roots, and f are the doubles of the next.
 use native.Mathlib.Omega.{arith}
-use Rattle.checks.specs.Growth.{growing_none, growing_more, growing_all, factor_first, factor_next, first_below}
+use Rattle.checks.specs.Growth.{growing_none, growing_more, factor_first, factor_next, first_below}
 use borrow.Author.Rules.{rules}
 use Rattle.checks.proofs.generator.grown.Goals as goal
 
@@ -15,6 +15,3 @@ loop-j-preserved c =
     let o = c.loop-j in
     growing_more _ _ _ _ _ _ _ _ _ _ _ _ _ (omega arith) (search rules) (search rules) o.invariant c.scaled.ensures c.down.ensures c.sum-g.ensures.number
     (factor_next _ _ _ _ _ o.invariant.factor c.double.ensures)
-
-pub returns : goal.returns
-returns c = growing_all _ _ _ _ _ _ _ (omega arith) c.loop-j.invariant

@@ -14,9 +14,6 @@ loop-i-init g c = record {
   unused = unused_none _;
 }
 
-pub set_bit-requires : goal.set_bit-requires
-set_bit-requires g c = (omega (arith, c.width-i-end.ensures.1), c.loop-i.invariant.unused, c.loop-i.invariant.alone)
-
 pub loop-i-preserved : goal.loop-i-preserved
 loop-i-preserved g c =
     let o = c.loop-i.invariant in

@@ -1,8 +1,7 @@
 -- `checks::turns::remainder` meets its contract. The invariant of both loops: the register is that after so many symbols.
 use mathlib.Core.Path.{◌≡◌}
-use Prim.Native.Nat.{◌+◌, ◌*◌, ◌/◌}
+use Prim.Native.Nat.{◌+◌, ◌*◌}
 use native.Mathlib.Omega.{arith}
-use lib.ListN.{length}
 use borrow.Author.Rules.{rules}
 use Rattle.checks.specs.Division.{divided_none, divided_one, divided_four}
 use Rattle.checks.specs.OneWord.{alone_zero}
@@ -23,12 +22,6 @@ loop-turn-preserved g c =
       alone = c.fed_four-p.ensures.upper o.invariant.alone;
     }
 
-pub loop-i-init : goal.loop-i-init
-loop-i-init g c =
-    let o = c.loop-turn in
-    let all : o.turn ≡ c.count-turns.result / 4 = omega arith in
-    record { divided = rw (← all) o.invariant.divided; alone = o.invariant.alone }
-
 pub loop-i-preserved : goal.loop-i-preserved
 loop-i-preserved g c =
     let o = c.loop-i in
@@ -36,11 +29,3 @@ loop-i-preserved g c =
       divided = divided_one _ _ _ _ _ _ _ _ o.invariant.divided (search rules) (search rules) _ (omega (arith, c.count-i-end.ensures)) c.one.ensures c.fed-p.ensures.number;
       alone = c.fed-p.ensures.upper o.invariant.alone;
     }
-
-pub returns-clause-divided : goal.returns-clause-divided
-returns-clause-divided g c =
-    let all : c.loop-i.i ≡ length (g.S.Symbols.list c.args.symbols) = omega (arith, c.loop-i.invariant.divided.within, c.count-i-end.ensures) in
-    rw all at c.loop-i.invariant.divided
-
-pub returns-clause-upper : goal.returns-clause-upper
-returns-clause-upper g c = c.loop-i.invariant.alone

