@@ -25,9 +25,8 @@ pub use clean::is_clean;
 use correct::correct_word;
 pub use limits::is_allowed;
 use limits::{check_message, check_part, check_received};
-use look::{Look, look_at};
+use look::{Look, look_alone};
 use map::note_changes;
-use tables::{Tables, decode_part_by, prepare};
 
 // What a word code is set to: m bits a symbol, n symbols a word, r check symbols, and b, the power of a at which its zeros start.
 #[derive(Clone, Copy)]
@@ -177,9 +176,7 @@ pub fn decode(
     ensures { Decodes s word.old marks.now map.old result word.new map.new }
 {
     check_received(s, word, marks, map)?;
-    let mut tables = Tables::none();
-    prepare(s, &mut tables);
-    let seen = look_at(s, &tables, word, marks);
+    let seen = look_alone(s, word, marks);
     in_place(s, seen, word, marks, map)
 }
 
@@ -195,7 +192,6 @@ pub fn decode_part(
     ensures { DecodesPart s received.now marks.now part.old map.old result part.new map.new }
 {
     check_part(s, received, marks, part, map)?;
-    let mut tables = Tables::none();
-    prepare(s, &mut tables);
-    decode_part_by(s, &tables, received, marks, part, map)
+    let seen = look_alone(s, received, marks);
+    to_part(s, seen, received, marks, part, map)
 }

@@ -1,13 +1,17 @@
 // The first look at a received word, before anything is copied or written: how many places are marked, and what the word leaves of its
 // message's check symbols. Most words leave nothing, and are answered after it.
+ghost use Rattle.std.specs.Prelude.{◌≤◌, take};
+ghost use Rattle.std.specs.Fn.{FnOnceReturnsAt};
+ghost use Rattle.checks.specs.Checks.{Checks};
+ghost use Rattle.word.specs.Setting.{message_size};
 ghost use Rattle.word.specs.Refusals.{Checked};
-ghost use Rattle.word.specs.Looking.{Looked, Tabled};
+ghost use Rattle.word.specs.Looking.{Looked};
 
 use crate::count::{count_marks, figures};
 use crate::{Figures, Setting};
 use buffers::all_below;
 use checks::left::{left_over, padded};
-use checks::register::{Tables, check_symbols_by};
+use checks::register::check_symbols;
 
 // What a look tells: a word is lost where it has more marks than check symbols, clean where it leaves nothing over, and else damaged.
 #[derive(Clone, Copy)]
@@ -17,10 +21,17 @@ pub enum Look {
     Damaged { marked: usize, rest: [u8; 16] },
 }
 
-// A look at a word that has passed the checks, by the tables of its setting.
+// A look at a word that has passed the checks. `checks_of` makes the check symbols of its message: by tables that are lent, or by its own.
 #[tactic(auto, using(crate::specs::Setting::in_limits))]
-pub fn look_at(s: Setting, tables: &Tables, received: &[u8], marks: &[u8]) -> Look
-    requires { Checked s marks.now received.now × Tabled s tables.now }
+pub fn look_at<F: FnOnce(&[u8]) -> [u8; 16]>(
+    s: Setting,
+    received: &[u8],
+    marks: &[u8],
+    checks_of: F,
+) -> Look
+    requires checked { Checked s marks.now received.now }
+    requires callable { F.IsAlwaysCallable checks_of }
+    requires given { (checks : _) → FnOnceReturnsAt F.FnOnce checks_of (take (message_size s) received.now) checks → Checks s.m s.b s.r (take (message_size s) received.now) checks }
     ensures { Looked s marks.now received.now result }
 {
     let f = count_marks(marks);
@@ -28,10 +39,22 @@ pub fn look_at(s: Setting, tables: &Tables, received: &[u8], marks: &[u8]) -> Lo
         return Look::Lost;
     }
     let k = s.n - s.r;
-    let checks = check_symbols_by(s.r, tables, &received[..k]);
+    let checks = checks_of(&received[..k]);
     let rest = left_over(checks, padded(&received[k..]));
     if all_below(&rest, 1) {
         return Look::Clean(figures(0, f, 0));
     }
     Look::Damaged { marked: f, rest }
+}
+
+// A look by check symbols that are made for this word alone.
+pub fn look_alone(s: Setting, received: &[u8], marks: &[u8]) -> Look
+    requires { Checked s marks.now received.now }
+    ensures { Looked s marks.now received.now result }
+{
+    let own_checks = |message: &[u8]| -> [u8; 16]
+        requires { (s.b ≤ 1) × (s.r ≤ 16) }
+        ensures { Checks s.m s.b s.r message.now result }
+    { check_symbols(s.m, s.b, s.r, message) };
+    look_at(s, received, marks, own_checks)
 }

@@ -1,6 +1,7 @@
 // The same calls for many words of one setting, as a frame's: the tables of the check symbols are made once and lent to each word, and the
 // caller has made all checks. What these calls ask is in their `requires`.
 ghost use Rattle.std.specs.Prelude.{◌≡◌, ◌≤◌, length};
+ghost use Rattle.checks.specs.Prepared.{ChecksBy};
 ghost use Rattle.word.specs.Setting.{message_size};
 ghost use Rattle.word.specs.Code.{encoded};
 ghost use Rattle.word.specs.Refusals.{MessageChecked, Checked};
@@ -46,7 +47,10 @@ pub fn decode_part_by(
     requires { Checked s marks.now received.now × Tabled s tables.now × (length part.old ≡ message_size s) × (length map.old ≡ s.n) }
     ensures { DecodesPart s received.now marks.now part.old map.old result part.new map.new }
 {
-    let seen = look_at(s, tables, received, marks);
+    let by_tables = |message: &[u8]| -> [u8; 16]
+        ensures { ChecksBy s.r tables.entry.now.low tables.entry.now.high message.now result }
+    { register::check_symbols_by(s.r, tables, message) };
+    let seen = look_at(s, received, marks, by_tables);
     to_part(s, seen, received, marks, part, map)
 }
 

@@ -1,7 +1,6 @@
 -- `decode` meets its contract: a refusal leaves the word and the map, and `in_place` promises the rest.
 use mathlib.Core.Path.{sym}
 use Rattle.std.proofs.lemmas.Result.{err_from_is_err_and}
-use Rattle.word.specs.Setting.{limits}
 use Rattle.word.specs.Refusals.{checked}
 use Rattle.word.specs.Met.{decode_checks}
 use Rattle.word.proofs.decode.Goals as goal
@@ -11,13 +10,8 @@ returns-in_err-check_received c =
     let p = err_from_is_err_and c.from_residual.result c.from_residual.ensures.1 in
     rw (p.1, p.2) (decode_checks _ _ _ _ _ c.in_err-check_received.ensures)
 
-pub prepare-requires : goal.prepare-requires
-prepare-requires c =
-    let limit = limits _ (checked _ _ _ _ (sym c.in_ok-check_received.ensures)).1.setting in
-    (limit.start, limit.high)
-
-pub look_at-seen-requires : goal.look_at-seen-requires
-look_at-seen-requires c = ((checked _ _ _ _ (sym c.in_ok-check_received.ensures)).1, c.prepare.ensures)
+pub look_alone-seen-requires : goal.look_alone-seen-requires
+look_alone-seen-requires c = (checked _ _ _ _ (sym c.in_ok-check_received.ensures)).1
 
 pub in_place-requires : goal.in_place-requires
-in_place-requires c = (c.look_at-seen.ensures, (checked _ _ _ _ (sym c.in_ok-check_received.ensures)).0)
+in_place-requires c = (c.look_alone-seen.ensures, (checked _ _ _ _ (sym c.in_ok-check_received.ensures)).0)

@@ -1,7 +1,6 @@
--- `decode_part` meets its contract: a refusal leaves the part and the map, and `decode_part_by` promises the rest.
+-- `decode_part` meets its contract: a refusal leaves the part and the map, and `to_part` promises the rest.
 use mathlib.Core.Path.{sym}
 use Rattle.std.proofs.lemmas.Result.{err_from_is_err_and}
-use Rattle.word.specs.Setting.{limits}
 use Rattle.word.specs.Refusals.{part_checked}
 use Rattle.word.specs.Met.{part_checks}
 use Rattle.word.proofs.decode_part.Goals as goal
@@ -11,12 +10,10 @@ returns-in_err-check_part c =
     let p = err_from_is_err_and c.from_residual.result c.from_residual.ensures.1 in
     rw (p.1, p.2) (part_checks _ _ _ _ _ _ c.in_err-check_part.ensures)
 
-pub prepare-requires : goal.prepare-requires
-prepare-requires c =
-    let limit = limits _ (part_checked _ _ _ _ _ (sym c.in_ok-check_part.ensures)).2.setting in
-    (limit.start, limit.high)
+pub look_alone-seen-requires : goal.look_alone-seen-requires
+look_alone-seen-requires c = (part_checked _ _ _ _ _ (sym c.in_ok-check_part.ensures)).2
 
-pub decode_part_by-requires : goal.decode_part_by-requires
-decode_part_by-requires c =
+pub to_part-requires : goal.to_part-requires
+to_part-requires c =
     let checked = part_checked _ _ _ _ _ (sym c.in_ok-check_part.ensures) in
-    (checked.2, c.prepare.ensures, checked.0, checked.1)
+    (c.look_alone-seen.ensures, checked.0, checked.1)

@@ -31,19 +31,19 @@ module _ (m b r n : ℕ) (w : List ℕ) (room : r ≤ n) (size : length w ≡ n)
       subst (λ (v : List ℕ). LeftOver m b r v (take r rest)) cut (left_over m b r (take k w) (take (length w - k) (drop k w)) checks received rest few tail-size sixteen c (rw tail-size at p) h)
 
 pub returns-then-s-f : goal.returns-then-s-f
-returns-then-s-f c = looked_lost _ _ _ c.requires.0 _ c.count_marks-f.ensures.0 c.if-s-f.true
+returns-then-s-f g c = looked_lost _ _ _ c.requires.checked _ c.count_marks-f.ensures.0 c.if-s-f.true
 
 pub returns-then-all_below : goal.returns-then-all_below
-returns-then-all_below c =
-    let given = c.requires.0 in
+returns-then-all_below g c =
+    let given = c.requires.checked in
     let limit = limits _ given.setting in
     looked_clean _ _ _ given _ c.count_marks-f.ensures.0 (omega arith) _
-    (left_cut _ _ _ _ _ (omega (arith, limit.room)) given.size _ _ _ limit.high (search rules) (c.check_symbols_by-checks.ensures.each _ _ c.requires.1) c.padded.ensures c.left_over-rest.ensures)
+    (left_cut _ _ _ _ _ (omega (arith, limit.room)) given.size _ _ _ limit.high (search rules) (c.requires.given _ (search rules)) c.padded.ensures c.left_over-rest.ensures)
     (sym c.if-all_below.true ∙ c.all_below.ensures) _ c.figures.ensures
 
 pub returns : goal.returns
-returns c =
-    let given = c.requires.0 in
+returns g c =
+    let given = c.requires.checked in
     let limit = limits _ given.setting in
     looked_damaged _ _ _ given _ c.count_marks-f.ensures.0 (omega arith) _
-    (left_cut _ _ _ _ _ (omega (arith, limit.room)) given.size _ _ _ limit.high (search rules) (c.check_symbols_by-checks.ensures.each _ _ c.requires.1) c.padded.ensures c.left_over-rest.ensures)
+    (left_cut _ _ _ _ _ (omega (arith, limit.room)) given.size _ _ _ limit.high (search rules) (c.requires.given _ (search rules)) c.padded.ensures c.left_over-rest.ensures)

@@ -1,0 +1,11 @@
+-- `look_alone` meets its contract: an allowed setting has check symbols.
+use Prim.Native.Nat.{◌≤◌}
+use borrow.Author.Rules.{rules}
+use Rattle.word.specs.Setting.{limits}
+use Rattle.word.proofs.look.look_alone.Goals as goal
+
+pub look_at-requires-clause-callable : goal.look_at-requires-clause-callable
+look_at-requires-clause-callable c =
+    let limit = limits _ c.requires.setting in
+    let few : (c.args.s.b ≤ 1) × (c.args.s.r ≤ 16) = (limit.start, limit.high) in
+    search rules
