@@ -31,7 +31,7 @@ pub fn look_at<F: FnOnce(&[u8]) -> [u8; 16]>(
 ) -> Look
     requires checked { Checked s marks.now received.now }
     requires callable { F.IsAlwaysCallable checks_of }
-    requires given { (checks : _) → FnOnceReturnsAt F.FnOnce checks_of (take (message_size s) received.now) checks → Checks s.m s.b s.r (take (message_size s) received.now) checks }
+    requires given { let message = take (message_size s) received.now in (c : _) → FnOnceReturnsAt F.FnOnce checks_of message c → Checks s.m s.b s.r message c }
     ensures { Looked s marks.now received.now result }
 {
     let f = count_marks(marks);
