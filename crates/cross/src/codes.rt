@@ -57,6 +57,7 @@ pub fn open_inner(word: &[u8], bytes: &mut [u8], map: &mut [u8]) -> u8
 // What becomes of the outer word that is due at a position: nothing for the first 108 frames, and the message bytes stay as they were; zeros
 // where the word is refused; else its message and figures. The frame is taken all the same.
 // The outer word's own map goes no further: its bytes came with 28 frames, and no place of it is a place of this frame.
+#[tactic(auto, using(crate::specs::Codes::settled_early))]
 pub fn settle(
     position: usize,
     bytes: &[u8],
