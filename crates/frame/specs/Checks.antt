@@ -4,7 +4,7 @@
 use Rattle.std.specs.Prelude.{◌≡◌, true, false, Result, Ok, Err, List, length, T}
 use Rattle.std.proofs.Math.Path.{refl}
 use Prim.Native.Nat.{ℕ, ◌+◌, ◌-◌, ◌≤◌}
-use Rattle.std.proofs.Math.Decide.{ℕ_discrete, dec_le}
+use Rattle.std.proofs.Math.Decide.{ℕ_discrete}
 use Rattle.std.proofs.Common.{arith}
 use Rattle.algebra.specs.Tests.{below, passed}
 use Rattle.algebra.specs.Refusal.{passes, need_yes, need_no, need_zero, need_either}
@@ -39,15 +39,6 @@ module _ (f : Framing) (payload slots : List ℕ) where
   pub send_long : FrameAllowed f → length slots ≡ slot_count f → (length payload ≤ area_size f - 4 → ⊥) → 6 ≡ send_refusal f payload slots
   unfolding send_refusal
   send_long a n l = need_yes _ _ _ _ (is_allowed f a) (need_yes _ _ _ _ n (need_no _ _ _ l))
-
-  pub send_checked : send_refusal f payload slots ≡ 0 → SendChecked f payload slots
-  unfolding send_refusal
-  send_checked e =
-      let (a, e₁) = need_zero (passes (allowed_frame f)) 1 _ (omega arith) e in
-      let (n, e₂) = need_zero (ℕ_discrete (length slots) (slot_count f)) 2 _ (omega arith) e₁ in
-      let (l, _) = need_zero (dec_le (length payload) (area_size f - 4)) 6 _ (omega arith) e₂ in
-      let limits = frame_kept f (passed _ a) in
-      record { limits = limits; slots_size = n; fits = omega (arith, limits.room) }
 
   pub send_passes : SendChecked f payload slots → 0 ≡ send_refusal f payload slots
   unfolding send_refusal
@@ -154,13 +145,6 @@ module _ (f : Framing) (slots : List ℕ) where
 
   pub clean_met : FrameAllowed f → length slots ≡ slot_count f → CleanChecked f slots
   clean_met a n = record { limits = a; slots_size = n }
-
-  pub clean_checked : clean_refusal f slots ≡ 0 → CleanChecked f slots
-  unfolding clean_refusal
-  clean_checked e =
-      let (a, e₁) = need_zero (passes (allowed_frame f)) 1 _ (omega arith) e in
-      let (n, _) = need_zero (ℕ_discrete (length slots) (slot_count f)) 2 _ (omega arith) e₁ in
-      record { limits = frame_kept f (passed _ a); slots_size = n }
 
   pub clean_passes : CleanChecked f slots → 0 ≡ clean_refusal f slots
   unfolding clean_refusal

@@ -48,10 +48,11 @@ pub record FrameTaken (f : Framing) (slots marks : List ℕ) : Type 0 where
   pub marks_size : length marks ≡ slot_count f
   pub marks_small : T (below 2 marks)
 
-pub frame_taken : (f : Framing) (slots marks : List ℕ) → FrameAllowed f → length slots ≡ slot_count f → length marks ≡ slot_count f → below 2 marks ≡ true → FrameTaken f slots marks
+pub frame_taken : (f : Framing) (slots marks : List ℕ)
+    → FrameAllowed f → length slots ≡ slot_count f → length marks ≡ slot_count f → below 2 marks ≡ true → FrameTaken f slots marks
 frame_taken f slots marks a n m b = record { limits = a; slots_size = n; marks_size = m; marks_small = rw b tt }
 
--- and before word w is decoded
+-- what has been checked before word w is decoded
 pub record WordGiven (f : Framing) (w : ℕ) (part map : List ℕ) : Type 0 where
   pub turn : w < f.depth
   pub part_size : length part ≡ message_size (word_setting f)
@@ -74,13 +75,16 @@ pub record WordFound (f : Framing) (w : ℕ) (slots marks map : List ℕ) (own :
   pub size : length (changes_at f slots marks w) ≡ f.n
   pub put : PutsWord f.depth w (changes_at f slots marks w) map left_map
 
-pub word_put : (f : Framing) (w : ℕ) (slots marks : List ℕ) (own : Figures) (part changed map left_map : List ℕ) → Accepted f w slots marks own part changed → PutsWord f.depth w changed map left_map → WordFound f w slots marks map own part left_map
+pub word_put : (f : Framing) (w : ℕ) (slots marks : List ℕ) (own : Figures) (part changed map left_map : List ℕ)
+    → Accepted f w slots marks own part changed → PutsWord f.depth w changed map left_map → WordFound f w slots marks map own part left_map
 word_put f w slots marks own part changed map left_map a p =
     record { reached = a.reached; figures_lem = a.figures_lem; message = a.message; size = rw a.places at a.spare.size; put = rw a.places at p }
 
 -- where no bit was changed, the map's slots are right as they are
-pub word_kept : (f : Framing) (w : ℕ) (slots marks : List ℕ) (own : Figures) (part changed map : List ℕ) → w < f.depth → Blank f.depth w map → own.bits ≡ 0 → Accepted f w slots marks own part changed → WordFound f w slots marks map own part map
-word_kept f w slots marks own part changed map l blank e a = word_put f w slots marks own part changed map map a (put_none f.depth f.n w changed map l blank (a.spare.none e))
+pub word_kept : (f : Framing) (w : ℕ) (slots marks : List ℕ) (own : Figures) (part changed map : List ℕ)
+    → w < f.depth → Blank f.depth w map → own.bits ≡ 0 → Accepted f w slots marks own part changed → WordFound f w slots marks map own part map
+word_kept f w slots marks own part changed map l blank e a =
+    word_put f w slots marks own part changed map map a (put_none f.depth f.n w changed map l blank (a.spare.none e))
 
 -- or it is beyond reach
 abbrev pub WordTold : Framing → ℕ → (slots marks map : List ℕ) → Option Figures → (part left_map : List ℕ) → Type 0
@@ -131,7 +135,8 @@ module _ (f : Framing) (w : ℕ) (slots marks : List ℕ) (g : FrameTaken f slot
         let (x, y, z) = decodes_part_once t (part_lost (word_setting f) word marked part room part_size room_size (checks small) (unchanged word) e refl) in
         rw x (rw e refl)
 
-    pub word_told : (d : Result Figures DecodeError) (left changed : List ℕ) → DecodesPart (word_setting f) (take f.n r) (take f.n s) part room d left changed → says (result_ok d) left changed
+    pub word_told : (d : Result Figures DecodeError) (left changed : List ℕ)
+        → DecodesPart (word_setting f) (take f.n r) (take f.n s) part room d left changed → says (result_ok d) left changed
     word_told d left changed t = decides (rw p.word at p.bytes) d left changed (rw (p.word, q.word) at t) (corrected_word f slots marks w) refl
 
 -- ---- the loop

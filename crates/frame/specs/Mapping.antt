@@ -44,9 +44,6 @@ module _ (J n : ℕ) (f : ℕ → List ℕ) where
   }
 
   module _ (w : ℕ) (map : List ℕ) (h : Mapping J n f w map) where
-    pub mapping_blank : Blank J w map
-    mapping_blank = record { zeros = λ t e. h.rest t (omega arith) }
-
     pub mapping_more : (word left : List ℕ) → w < J → word ≡ f w → length word ≡ n → PutsWord J w word map left → Mapping J n f (w + 1) left
     mapping_more word left l e s p = record {
       put = putting_more J n f w word map left l e s h.put p;

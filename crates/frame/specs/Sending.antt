@@ -8,7 +8,7 @@ use Rattle.word.specs.Setting.{message_size, allowed_yes}
 use Rattle.word.specs.Code.{encoded}
 use Rattle.word.specs.Refusals.{MessageChecked}
 use Rattle.algebra.specs.Refusal.{new, kept}
-use Rattle.interleave.specs.Slots.{PutsWord, Putting, putting_none, putting_more, putting_all}
+use Rattle.interleave.specs.Slots.{PutsWord, Putting, putting_more, putting_all}
 use Rattle.frame.specs.Frame.{word_setting, area_size, area_byte, area_sent, word_sent, slots_sent, sent_number, send_refusal, sending}
 use Rattle.frame.specs.Frame.Limits.{FrameAllowed}
 use Rattle.frame.specs.Frame.Trailer.{length_sent}
@@ -34,10 +34,6 @@ pub record WordsSent (f : Framing) (payload : List ℕ) (sequence w : ℕ) (mess
   pub put : Putting f.depth f.n (word_sent f payload sequence) w slots
 
 module _ (f : Framing) (payload : List ℕ) (sequence : ℕ) where
-  pub sent_none : (message word slots : List ℕ) → SendGiven f payload message word slots → WordsSent f payload sequence 0 message word slots
-  sent_none message word slots g =
-      record { turn = omega arith; message_size_lem = g.message_size_lem; word_size = g.word_size; put = putting_none _ _ _ slots g.checked.slots_size }
-
   module _ (w : ℕ) where
     abbrev k : ℕ
     k = message_size (word_setting f)

@@ -12,7 +12,7 @@ ghost use Rattle.frame.specs.Decoding.{WordGiven, WordTold, Collected};
 
 use crate::setting::{Framing, ReceiveError, Received, is_allowed};
 use crate::trailer::{is_good, two_at};
-use buffers::{all_below, fill, filled};
+use buffers::{all_below, filled};
 use interleave::slots::{put_word, take_word};
 use word::Figures;
 use word::numbers::no_figures;
@@ -78,7 +78,7 @@ impl Arrived<'_> {
         requires { (length area.old ≡ area_size self.now.f) × (length map.old ≡ slot_count self.now.f) }
         ensures { Collected self.now.f self.now.slots.now self.now.marks.now result area.new map.new }
     {
-        fill(map, 0);
+        map.fill(0);
         let k = self.f.message();
         let mut figures = [no_figures(); 16];
         for w in 0..self.f.depth {
@@ -97,8 +97,8 @@ impl Arrived<'_> {
 fn clear(whole: &mut [u8], changed: &mut [u8])
     ensures { (whole.new ≡ replicate (length whole.old) 0) × (changed.new ≡ replicate (length changed.old) 0) }
 {
-    fill(whole, 0);
-    fill(changed, 0);
+    whole.fill(0);
+    changed.fill(0);
 }
 
 // The answer of a frame whose words are all accepted: what its trailer says.

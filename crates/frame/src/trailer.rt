@@ -1,6 +1,6 @@
 // The message area and its trailer: document 01, section Block interleaver and frame. Zeros, the payload, and in the last four bytes how far
 // back it goes and the sequence number.
-ghost use Rattle.std.specs.Prelude.{◌≡◌, ◌+◌, ◌<◌, ◌≤◌, length};
+ghost use Rattle.std.specs.Prelude.{◌≡◌, ℕ, ◌+◌, ◌<◌, ◌≤◌, length};
 ghost use Rattle.algebra.specs.Tests.{at};
 ghost use Rattle.algebra.specs.Lists.{Copied};
 ghost use Rattle.frame.specs.Frame.{trailer, two_at, area_byte, area_sent, trailer_good};
@@ -18,21 +18,21 @@ fn trailer_of(back: u16, sequence: u16) -> [u8; 4]
     [back_low, back_high, sequence_low, sequence_high]
 }
 
-// Byte i of the area to be sent.
+// Byte i of the area to be sent, whose last bytes are this trailer.
 #[tactic(auto, using(crate::specs::Frame::Trailer::sent_zero, crate::specs::Frame::Trailer::sent_payload, crate::specs::Frame::Trailer::sent_trailer))]
-fn area_at(payload: &[u8], sequence: u16, size: usize, i: usize) -> u8
-    requires { (length payload.now + 4 ≤ size) × (size ≤ 65535) × (i < size) }
-    ensures { result ≡ at (area_sent size payload.now sequence) i }
+fn area_at(payload: &[u8], tail: &[u8; 4], size: usize, i: usize) -> u8
+    requires { (length payload.now + 4 ≤ size) × (i < size) }
+    ensures { (sequence : ℕ) → tail.now ≡ trailer (length payload.now) sequence → result ≡ at (area_sent size payload.now sequence) i }
 {
     let end = size - 4;
     let start = end - payload.len();
     if i < start {
-        return 0;
+        0
+    } else if i < end {
+        payload[i - start]
+    } else {
+        tail[i - end]
     }
-    if i < end {
-        return payload[i - start];
-    }
-    trailer_of(payload.len() as u16, sequence)[i - end]
 }
 
 // Fills the message of a word with the area's bytes from `start` on.
@@ -40,8 +40,9 @@ pub fn fill_message(payload: &[u8], sequence: u16, size: usize, start: usize, me
     requires { (length payload.now + 4 ≤ size) × (size ≤ 65535) × (start + length message.old ≤ size) }
     ensures { Copied (length message.old) (area_byte (area_sent size payload.now sequence) start) message.new }
 {
+    let tail = trailer_of(payload.len() as u16, sequence);
     for (i, byte) in message.iter_mut().enumerate() {
-        *byte = area_at(payload, sequence, size, start + i);
+        *byte = area_at(payload, &tail, size, start + i);
     }
 }
 

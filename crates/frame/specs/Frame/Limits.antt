@@ -1,6 +1,6 @@
 -- The limits of a frame, read from the test.
 -- Assumes nothing.
-use Rattle.std.specs.Prelude.{◌≡◌, refl, true, false, ◌&&◌, ◌-◌, ◌*◌, ◌≤◌}
+use Rattle.std.specs.Prelude.{◌≡◌, true, ◌&&◌, ◌-◌, ◌*◌, ◌≤◌}
 use Rattle.std.proofs.Math.Bool.{Bool}
 use Rattle.std.proofs.Common.{mul-le-mul_right, arith}
 use Rattle.std.proofs.Math.Dec.{T, leb, leb→le}
@@ -46,13 +46,6 @@ module _ (f : Framing) where
   frame_yes a =
       rw (← allowed_yes (word_setting f) a.words, le-leb 1 f.depth a.some, le-leb f.depth 16 a.few, le-leb 4 (area_size f) a.room)
 
-  pub frame_no : (FrameAllowed f → ⊥) → false ≡ allowed_frame f
-  frame_no h = go (allowed_frame f) refl
-    where
-      go : (b : Bool) → allowed_frame f ≡ b → false ≡ b
-      go true e = absurd (h (frame_limits (rw e tt)))
-      go false e = refl
-
   -- what the word code's own test says of the frame's words
   pub small_yes : allowed (word_setting f) ≡ true → f.depth ≤ 16 → Small f
   small_yes e h = record { words = limits (word_setting f) (rw e tt); few = h }
@@ -72,9 +65,6 @@ module _ (f : Framing) (a : Small f) where
 module _ (f : Framing) (a : FrameAllowed f) where
   pub small : Small f
   small = record { words = a.words; few = a.few }
-
-  pub short_word : f.n ≤ 255
-  short_word = omega (arith, a.words.short)
 
   pub area_few : area_size f ≤ 4080
   area_few = area_small f small

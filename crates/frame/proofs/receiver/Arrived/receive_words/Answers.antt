@@ -1,14 +1,16 @@
 -- `receive_words` meets its contract. The loop's invariant: w words are accepted, and their messages, maps and figures are written.
 use mathlib.Core.Path.{◌≡◌, ◌∙◌}
 use native.Mathlib.Omega.{arith}
-use Rattle.std.proofs.Common.{length, length-take, length-drop}
+use Rattle.std.proofs.Common.{rules, length, replicate, length-take, length-drop}
 use Rattle.word.specs.Setting.{message_size}
 use Rattle.frame.specs.Frame.{word_setting}
 use Rattle.frame.specs.Decoding.{collecting_none, fits, collecting_more, first_lost, all_found}
 use Rattle.frame.proofs.receiver.Arrived.receive_words.Goals as goal
 
 pub loop-w-init : goal.loop-w-init
-loop-w-init c = rw c.no_figures-figures.ensures (collecting_none _ _ _ _ c.requires.0 _ (rw c.requires.1 at c.fill.ensures))
+loop-w-init c =
+    let cleared : c.fill.new.self ≡ replicate (length c.args.map.now) 0 = search rules in
+    rw c.no_figures-figures.ensures (collecting_none _ _ _ _ c.requires.0 _ (rw c.requires.1 at cleared))
 
 pub returns-in_default : goal.returns-in_default
 returns-in_default c = first_lost _ _ _ _ _ _ _ _ c.loop-w.invariant c.loop-w-test.true (rw c.in_default.is at c.receive_word.ensures)
