@@ -16,7 +16,7 @@ use Rattle.cross.specs.Cross.{outer_code, inner_code, outer_word, passed_on, mar
 use Rattle.cross.specs.Codes.{outer_allowed, inner_allowed, outer_encoded, inner_encoded, inner_given, outer_given}
 use Rattle.cross.specs.Frames.{due_size}
 use Rattle.cross.specs.Calls.{due_sent, sent_held, sends, ReceiverCalls, due_bytes, due_marks, seen, receives}
-use Rattle.cross.specs.declared.position.Received.{Received}
+use Rattle.cross.specs.Promises.{FrameAnswer}
 use Rattle.coverage.proofs.Words.{encoded_code, encoded_size, encoded_message, Came, part_given}
 use Rattle.coverage.specs.CrossBack.{CrossSent, CrossArrives, CrossComesBack}
 
@@ -108,7 +108,7 @@ module _ (many : ℕ) (messages came : ℕ → List ℕ) (a : CrossArrives many 
     passed_on_lem : passed_on (came F) ≡ due_sent messages F
     passed_on_lem = sym given_on.1 ∙ front many messages a.words a.sent F h
 
-  module _ (answers : ℕ → Received) (back : ℕ → List ℕ) (r : ReceiverCalls many came answers back) (F : ℕ) (h : F + 108 < many) where
+  module _ (answers : ℕ → FrameAnswer) (back : ℕ → List ℕ) (r : ReceiverCalls many came answers back) (F : ℕ) (h : F + 108 < many) where
     -- byte i of the message's outer word left with frame F + 4i, and is due with frame F + 108
     byte_back : (i : ℕ) → i < 28 → at (due_bytes came (F + 108)) i ≡ at (encoded outer_code (messages F)) i
     byte_back i l =
@@ -155,12 +155,12 @@ module _ (many : ℕ) (messages came : ℕ → List ℕ) (a : CrossArrives many 
         ∙ ap₂ (λ (f : Figures) (w : List ℕ). record { number = 0; figures = f; message = w }) (no_figures_lem (encoded outer_code (messages F)) word_size) (encoded_message outer_code outer_allowed (messages F) (size many messages a.words a.sent F (omega arith)) (a.sent.bytes F (omega arith)))
 
   -- Message F comes back with frame F + 108.
-  pub cross_comes_back : (answers : ℕ → Received) (back : ℕ → List ℕ) → ReceiverCalls many came answers back → CrossComesBack many messages answers back
+  pub cross_comes_back : (answers : ℕ → FrameAnswer) (back : ℕ → List ℕ) → ReceiverCalls many came answers back → CrossComesBack many messages answers back
   cross_comes_back answers back r F h =
       receives many came answers back r (F + 108) h (omega arith)
       ∙ rw (bytes_back answers back r F h, marks_back answers back r F h) (closing answers back r F h)
 
 -- With no damage at all, too.
-pub cross_comes_back_undamaged : (many : ℕ) (messages words : ℕ → List ℕ) (answers : ℕ → Received) (back : ℕ → List ℕ) → CrossSent many messages words → ReceiverCalls many words answers back
+pub cross_comes_back_undamaged : (many : ℕ) (messages words : ℕ → List ℕ) (answers : ℕ → FrameAnswer) (back : ℕ → List ℕ) → CrossSent many messages words → ReceiverCalls many words answers back
     → CrossComesBack many messages answers back
 cross_comes_back_undamaged many messages words answers back s = cross_comes_back many messages words (undamaged many messages words s) answers back

@@ -5,7 +5,7 @@ use Rattle.algebra.specs.Tests.{below}
 use Rattle.word.specs.Word.{errors}
 use Rattle.cross.specs.Cross.{without_figures, received}
 use Rattle.cross.specs.Calls.{SenderCalls}
-use Rattle.cross.specs.declared.position.Received.{Received}
+use Rattle.cross.specs.Promises.{FrameAnswer}
 
 -- ---- the statement
 
@@ -22,5 +22,5 @@ pub record CrossArrives (many : ℕ) (messages came : ℕ → List ℕ) : Type 0
   pub near : (F : ℕ) → F < many → errors (replicate 32 0) (came F) (words F) ≤ 2
 
 -- frame F + 108 is answered 0 with message F, and nothing was left for the outer code to correct
-abbrev pub CrossComesBack : ℕ → (ℕ → List ℕ) → (ℕ → Received) → (ℕ → List ℕ) → Type 0
+abbrev pub CrossComesBack : ℕ → (ℕ → List ℕ) → (ℕ → FrameAnswer) → (ℕ → List ℕ) → Type 0
 CrossComesBack many messages answers back = (F : ℕ) → F + 108 < many → received (answers (F + 108)) (back (F + 108)) ≡ without_figures 0 (messages F)

@@ -1,16 +1,8 @@
 -- Bytes in base sixteen, one after the other.
 -- Assumes nothing.
-use Rattle.std.specs.Prelude.{◌≡◌, refl, List, [], ◌∷◌, ◌++◌, ℕ, zero, suc, ◌+◌, ◌*◌, ◌≤◌, ◌<◌, length, get_or, take}
-use Rattle.std.proofs.Common.{not-suc-le-zero, le_of_suc-le-suc, add-one, arith, lt-ltb, le-ltb}
-use Rattle.text.specs.Text.{hex_digit, hex, hexes}
-
-pub hex_low : (d : ℕ) → d < 10 → 48 + d ≡ hex_digit d
-unfolding hex_digit
-hex_low d l = rw (lt-ltb d 10 l)
-
-pub hex_high : (d : ℕ) → 10 ≤ d → 55 + d ≡ hex_digit d
-unfolding hex_digit
-hex_high d l = rw (le-ltb d 10 l)
+use Rattle.std.specs.Prelude.{◌≡◌, refl, List, [], ◌∷◌, ◌++◌, ℕ, zero, suc, ◌+◌, ◌*◌, ◌<◌, length, get_or, take}
+use Rattle.std.proofs.Common.{not-suc-le-zero, le_of_suc-le-suc, add-one, arith}
+use Rattle.text.specs.Text.{hex, hexes}
 
 pub hexes_size : (l : List ℕ) → length (hexes l) ≡ 2 * length l
 unfolding hexes hex
