@@ -9,7 +9,7 @@ use crate::pair::Pair;
 pub fn wide(x: u8) -> u64
     ensures { (result ≡ x) × (result < 256) }
 {
-    x as u64
+    u64::from(x)
 }
 
 // Four symbols from the one at i on, the first in the lowest byte. Every symbol is a byte.

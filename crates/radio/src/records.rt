@@ -44,7 +44,7 @@ impl From<LentRecord> for Record {
 fn flag_after(flag: u8, accepted: bool) -> u8
     ensures { result ≡ flag_after flag accepted }
 {
-    if flag != 0 { flag } else { accepted as u8 }
+    if flag != 0 { flag } else { u8::from(accepted) }
 }
 
 // The next record as C sees it.

@@ -66,7 +66,7 @@ impl From<Result<bool, InputError>> for WordClean {
 
     fn from(d: Result<bool, InputError>) -> WordClean {
         let (answer, clean) = match d {
-            Ok(clean) => (0, clean as u8),
+            Ok(clean) => (0, u8::from(clean)),
             Err(e) => (e.number(), 0),
         };
         WordClean { answer, clean }
