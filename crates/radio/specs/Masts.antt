@@ -11,7 +11,7 @@ use Rattle.link.specs.declared.choice.Mast.{Mast}
 use Rattle.link.specs.declared.choice.Mast.TheVariants.{First, Second}
 use Rattle.link.specs.declared.choice.Chosen.{Chosen}
 use Rattle.link.specs.declared.choice.MastsError.{MastsError}
-use Rattle.link.specs.declared.masts.MastsHeard.{MastsHeard}
+use Rattle.link.specs.declared.hearing.Heard.{Heard}
 use Rattle.radio.specs.Shown.{Shows, shown_once}
 use Rattle.radio.specs.Frames.{framing_of, start_of, payload_place}
 use Rattle.radio.specs.Records.{record_of, record_seen}
@@ -60,7 +60,7 @@ two_frames = record { answer = 8; word = 0; sequence = 0; start = 0; length = 0;
 abbrev pub both_masts_seen : LentRecord → ChosenAnswer → MastsAnswer
 both_masts_seen next answer = record { next = next; answer = answer }
 
-abbrev pub masts_seen : LentRecord → (first second : List ℕ) → MastsHeard → MastsAnswer
+abbrev pub masts_seen : LentRecord → (first second : List ℕ) → Heard (Result Chosen MastsError) → MastsAnswer
 masts_seen before first second t = both_masts_seen (record_seen before t.next) (chosen_seen first second t.answer)
 
 -- ---- the promises, each of the call below with what is seen of its answer

@@ -6,7 +6,7 @@ use Rattle.record.specs.declared.Record.{Record}
 use Rattle.link.specs.Replay.{replay_number, frames_heard}
 use Rattle.link.specs.Promises.{Replays, replays_once}
 use Rattle.link.specs.declared.replaying.ReplayError.{ReplayError}
-use Rattle.link.specs.declared.replaying.ReplayHeard.{ReplayHeard}
+use Rattle.link.specs.declared.hearing.Heard.{Heard}
 use Rattle.radio.specs.Shown.{Shows, shown_once}
 use Rattle.radio.specs.Frames.{framing_of}
 use Rattle.radio.specs.declared.frames.FrameSetting.{FrameSetting}
@@ -22,7 +22,7 @@ replayed_seen t = record { answer = replay_number t; frames = frames_heard t }
 abbrev pub both_replayed_seen : LentRecord → ReplayedAnswer → ReplayAnswer
 both_replayed_seen next answer = record { next = next; answer = answer }
 
-abbrev pub replay_seen : LentRecord → ReplayHeard → ReplayAnswer
+abbrev pub replay_seen : LentRecord → Heard (Result ℕ ReplayError) → ReplayAnswer
 replay_seen before t = both_replayed_seen (record_seen before t.next) (replayed_seen t.answer)
 
 -- `yaxo_replay` answers this, and `yaxo_replay_in` leaves the record and answers the rest
