@@ -6,6 +6,8 @@ ghost use Rattle.io.specs.Counts.{IsPrefixLen};
 
 const STDIN: i32 = 0;
 
+const STDOUT: i32 = 1;
+
 // Reads as much as decides the answer, and no more: input without an end is answered too. `io::read_full` counts what a short input holds,
 // where std's `read_exact` only fails, and std's `read_to_end` needs the heap.
 #[tactic(auto, using(reader::specs::Head::wanted_bounds))]
@@ -20,10 +22,11 @@ fn read_input(input: &mut [u8; 4096]) -> usize
     4 + io::read_full(STDIN, &mut input[4..end])
 }
 
-fn main(rt: HostRuntime) -> std::io::Result<()> {
+// The text is written by `io` too, which rests on the C library's `write` alone; the runtime's printing would rest on two calls of C more.
+fn main() {
     let mut input = [0; 4096];
     let mut text = [0; 30000];
     let n = read_input(&mut input);
     let count = reader::report(&input[..n], &mut text);
-    rt.write_all(&text[..count])
+    io::write_all(STDOUT, &text[..count]);
 }

@@ -1,18 +1,17 @@
 // The record's memory, document 02, No. 7, in short histories. What is proved of them stands in specs/Late.antt.
 use crate::say::say;
 use record::{Record, fresh, note, unseen_of};
-use std::io;
 
 // What the memory tells apart, and how far it reaches.
-pub fn say_late(rt: &impl Print) -> io::Result<()> {
+pub fn say_late() {
     // Catches a late first copy that is counted as older or moves the last number, and one that is not remembered.
-    say(rt, "late, then repeat", late_then_repeat())?;
+    say("late, then repeat", late_then_repeat());
     // Catches a memory of 31 or of 33 numbers.
-    say(rt, "32 behind late, 33 older", late_as_far_as_32())?;
+    say("32 behind late, 33 older", late_as_far_as_32());
     // Catches an old last that is not seen or is seen a place off, also across 65535.
-    say(rt, "old last seen", old_last_seen())?;
+    say("old last seen", old_last_seen());
     // Catches a step of 32 that forgets the old last, and one of 33 that keeps it.
-    say(rt, "old last kept by 32", kept_as_far_as_32())
+    say("old last kept by 32", kept_as_far_as_32());
 }
 
 // What a fresh record becomes by these frames, all accepted.

@@ -5,103 +5,91 @@ use crate::expect::{Lent, refuses_message, refuses_word, setting};
 use crate::say::say;
 use crate::slots::fresh_answers;
 use interleave::LineError;
-use std::io;
 use word::InputError;
 
 // What a setting is refused for, and a line's setting that stands.
-pub fn say_settings(rt: &impl Print) -> io::Result<()> {
+pub fn say_settings() {
     // Catches a word with two places at one power of a.
-    say(rt, "n 256 refused 1", refuses_setting(8, 256, 16, 0))?;
+    say("n 256 refused 1", refuses_setting(8, 256, 16, 0));
     // Catches the limit of m = 8 used at m = 3.
-    say(rt, "n 8 at m 3 refused 1", refuses_setting(3, 8, 4, 1))?;
+    say("n 8 at m 3 refused 1", refuses_setting(3, 8, 4, 1));
     // Catches a least r of 1, by which no symbol could be mended.
-    say(rt, "r 1 refused 1", refuses_setting(8, 7, 1, 0))?;
+    say("r 1 refused 1", refuses_setting(8, 7, 1, 0));
     // Catches an r for which the sixteen check symbols that are kept are too few.
-    say(rt, "r 17 refused 1", refuses_setting(8, 255, 17, 0))?;
+    say("r 17 refused 1", refuses_setting(8, 255, 17, 0));
     // Catches a field between the two that there are.
-    say(rt, "m 4 refused 1", refuses_setting(4, 7, 4, 1))?;
+    say("m 4 refused 1", refuses_setting(4, 7, 4, 1));
     // Catches zeros that start beyond a^1.
-    say(rt, "b 2 refused 1", refuses_setting(3, 7, 4, 2))?;
+    say("b 2 refused 1", refuses_setting(3, 7, 4, 2));
     // Catches a line of EN 300 421 that is refused.
-    say(rt, "M I = n stands", fresh_answers(204, None))?;
+    say("M I = n stands", fresh_answers(204, None));
     // Catches an n for which two bytes of a word may be sent fewer than I slots apart.
     say(
-        rt,
         "M I = n - I refused 1",
         fresh_answers(216, Some(LineError::BadSetting)),
-    )
+    );
 }
 
 // What is refused 2 and 3 of a received word, and the order of the checks.
-pub fn say_words(rt: &impl Print) -> io::Result<()> {
+pub fn say_words() {
     let sent = [7u8, 3, 2, 5, 6, 4, 1];
     let large = [7u8, 3, 2, 5, 6, 8, 1];
     let unmarked = [0u8; 7];
     let marks = [0u8, 0, 2, 0, 0, 0, 0];
     // Catches a word taken as longer than it is.
     say(
-        rt,
         "short word refused 2",
         refuses_example(3, sent, unmarked, lent(6, 7, 7), InputError::BadLength),
-    )?;
+    );
     // Catches marks taken as longer than they are.
     say(
-        rt,
         "short marks refused 2",
         refuses_example(3, sent, unmarked, lent(7, 6, 7), InputError::BadLength),
-    )?;
+    );
     // Catches a map that is written beyond its end, and a symbol that is looked at before its length: both are wrong here.
     say(
-        rt,
         "short map refused 2",
         refuses_example(3, large, unmarked, lent(7, 7, 6), InputError::BadLength),
-    )?;
+    );
     // Catches a symbol that is no element, which the field of 8 does not have.
     say(
-        rt,
         "symbol 8 refused 3",
         refuses_example(3, large, unmarked, lent(7, 7, 7), InputError::BadSymbol),
-    )?;
+    );
     // Catches a mark of 2 counted as two marks, or as one.
     say(
-        rt,
         "mark 2 refused 3",
         refuses_example(3, sent, marks, lent(7, 7, 7), InputError::BadSymbol),
-    )?;
+    );
     // Catches a length or a symbol that is looked at before the setting: all three are wrong here.
     say(
-        rt,
         "setting first refused 1",
         refuses_example(4, large, unmarked, lent(6, 7, 7), InputError::BadSetting),
-    )?;
+    );
     // Catches a symbol that is looked at before the length: both are wrong here.
     say(
-        rt,
         "length second refused 2",
         refuses_example(3, large, unmarked, lent(6, 7, 7), InputError::BadLength),
-    )
+    );
 }
 
 // The same of a message that is to be encoded.
-pub fn say_messages(rt: &impl Print) -> io::Result<()> {
+pub fn say_messages() {
     // Catches an encoder that takes a message for longer than it is.
     say(
-        rt,
         "short message refused 2",
         refuses_example_message([7, 3, 2], 2, 7, InputError::BadLength),
-    )?;
+    );
     // Catches an encoder that writes beyond a word, or a codeword without its end.
     say(
-        rt,
         "short room refused 2",
         refuses_example_message([7, 3, 2], 3, 6, InputError::BadLength),
-    )?;
+    );
     // Catches an encoder that takes a symbol that is no element.
     say(
-        rt,
         "message symbol 8 refused 3",
         refuses_example_message([7, 8, 2], 3, 7, InputError::BadSymbol),
-    )
+    );
 }
 
 // Whether decoding and encoding refuse a setting with 1, where lengths and symbols fit it.

@@ -3,55 +3,47 @@ ghost use Rattle.std.specs.Prelude.{◌≡◌, ◌≤◌, length};
 
 use crate::expect::{Outcome, decodes, decodes_part, done, setting};
 use crate::say::say;
-use std::io;
 use word::{DecodeError, Setting};
 
 // What that word bears.
-pub fn say_reach(rt: &impl Print) -> io::Result<()> {
+pub fn say_reach() {
     // Catches a setting of 255 that is refused, and a codeword that is changed.
     say(
-        rt,
         "n 255 stands",
         word_answers(0, 0, done(0, 0, 0), sent(), [0; 255]),
-    )?;
+    );
     // Catches a decoder that stops short of r / 2 wrong symbols, check symbols among them.
     say(
-        rt,
         "8 wrong come back",
         word_answers(8, 0, done(8, 0, 24), sent(), marked(8)),
-    )?;
+    );
     // Catches a word beyond reach that is accepted, or written before it is refused. No codeword is within 8 places of this one.
     say(
-        rt,
         "9 wrong refused 4",
         word_answers(9, 0, Err(DecodeError::BeyondReach), received(9), [0; 255]),
-    )?;
+    );
     // Catches a decoder that stops short of r marked symbols.
     say(
-        rt,
         "16 marked come back",
         word_answers(16, 16, done(0, 16, 48), sent(), marked(16)),
-    )?;
+    );
     // Catches a map that has every mark: half of the marked symbols are right here.
     say(
-        rt,
         "right marks not mapped",
         word_answers(8, 16, done(0, 16, 24), sent(), marked(8)),
-    )?;
+    );
     // Catches a part that gets anything but the corrected word's message.
     say(
-        rt,
         "part gets the message",
         part_answers(8, done(8, 0, 24), message(), marked(8)),
-    )?;
+    );
     // Catches a part that is written though the word is refused.
     say(
-        rt,
         "part refused 4 stays",
         part_answers(9, Err(DecodeError::BeyondReach), [9; 239], [0; 255]),
-    )?;
+    );
     // Catches a part that is not of k symbols and is filled in front, or beyond its end.
-    say(rt, "short part refused 2", short_part())
+    say("short part refused 2", short_part());
 }
 
 fn longest() -> Setting {

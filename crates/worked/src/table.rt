@@ -1,45 +1,40 @@
 // The worked table, P1 to P13, run through the calls.
 use crate::expect::{Outcome, decodes, done, encodes, setting};
 use crate::heard::{is_newer, is_older};
-use crate::say::say_item;
+use crate::say::say;
 use crate::slots::comes_back;
-use std::io;
 use word::{DecodeError, Setting};
 
 // The items of the field and of the word code.
-pub fn say_code(rt: &impl Print) -> io::Result<()> {
+pub fn say_code() {
     // Catches a product at m = 3 that is not reduced by 11.
-    say_item(rt, 1, multiplies(3, 2, 5, 1))?;
+    say("P1", multiplies(3, 2, 5, 1));
     // Catches a product at m = 8 that is not reduced by 285.
-    say_item(rt, 2, multiplies(8, 128, 2, 29))?;
+    say("P2", multiplies(8, 128, 2, 29));
     // Catches symbols in 002's order, lowest power first, and roots from a^0 where b = 1.
-    say_item(rt, 3, encodes_example())?;
+    say("P3", encodes_example());
     // Catches a decoder that mends one wrong symbol only, bits counted as symbols, and a map in another order than the word.
-    say_item(rt, 4, mends_example())?;
+    say("P4", mends_example());
     // Catches roots from a^1 where b = 0.
-    say_item(rt, 5, encodes_s())?;
+    say("P5", encodes_s());
     // Catches an error in the first place, the highest power, that is put elsewhere.
-    say_item(
-        rt,
-        6,
+    say(
+        "P6",
         decodes_s([0, 3, 2], [0, 0, 0], done(1, 0, 1), [1, 3, 2], [1, 0, 0]),
-    )?;
+    );
     // Catches a wrong check symbol that is left as it came, or not mapped.
-    say_item(
-        rt,
-        7,
+    say(
+        "P7",
         decodes_s([0, 0, 2], [0, 0, 0], done(1, 0, 1), [0, 0, 0], [0, 0, 1]),
-    )?;
+    );
     // Catches marks that are not used: the word of P7, with marks, is another codeword's. Catches a map of unmarked changes only.
-    say_item(
-        rt,
-        8,
+    say(
+        "P8",
         decodes_s([0, 0, 2], [1, 1, 0], done(0, 2, 3), [1, 3, 2], [1, 1, 0]),
-    )?;
+    );
     // Catches an error place beyond n of a shortened word, a refused word that is written, and its map that is left as it was.
-    say_item(
-        rt,
-        9,
+    say(
+        "P9",
         decodes_s(
             [0, 1, 2],
             [0, 0, 0],
@@ -47,11 +42,10 @@ pub fn say_code(rt: &impl Print) -> io::Result<()> {
             [0, 1, 2],
             [0, 0, 0],
         ),
-    )?;
+    );
     // Catches a marked symbol counted as free because it was right: three marks are more than r. Catches a map of the marks.
-    say_item(
-        rt,
-        10,
+    say(
+        "P10",
         decodes_s(
             [1, 3, 2],
             [1, 1, 1],
@@ -59,17 +53,17 @@ pub fn say_code(rt: &impl Print) -> io::Result<()> {
             [1, 3, 2],
             [0, 0, 0],
         ),
-    )
+    );
 }
 
 // The items of the interleavers and of the record.
-pub fn say_link(rt: &impl Print) -> io::Result<()> {
+pub fn say_link() {
     // Catches an interleaver that copies, and one that sends columns.
-    say_item(rt, 11, spreads())?;
+    say("P11", spreads());
     // Catches a branch that holds back too long or not at all, and a fresh receiver whose bytes are not marked.
-    say_item(rt, 12, comes_back())?;
+    say("P12", comes_back());
     // Catches newer decided by plain comparison.
-    say_item(rt, 13, newer_by_difference())
+    say("P13", newer_by_difference());
 }
 
 // Whether a product is z.
