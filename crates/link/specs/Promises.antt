@@ -151,7 +151,8 @@ each_received {x = x} {y = y} p q e = record { outcome = e.outcome x y ∙ ap₂
 
 -- hearing them is receiving both, and noting once the number and sequence number that are handed back
 pub masts_received_and_noted : {before : Record} {f : Framing} {first second : Copy} {answer : Result Chosen MastsError} {number sequence : ℕ} {next : Record} {x y : Left}
-    → ReceivesMasts f first second answer x y → number ≡ masts_number answer → sequence ≡ (chosen_of answer).sequence → Notes before number sequence next → HearsMasts before f first second answer next x y
+    → ReceivesMasts f first second answer x y → number ≡ masts_number answer → sequence ≡ (chosen_of answer).sequence → Notes before number sequence next
+    → HearsMasts before f first second answer next x y
 unfolding hearing_masts
 masts_received_and_noted e k q n = record { outcome = rw (sym e.outcome, n.outcome, k, q) }
 

@@ -1,8 +1,9 @@
 -- A piece of text written into a lent buffer: the promise of every call that writes one. What stands before it and behind it stays.
 -- Assumes nothing.
-use Rattle.std.specs.Prelude.{◌≡◌, List, [], ◌++◌, ℕ, ◌+◌, ◌≤◌, length, take, drop}
-use Rattle.std.proofs.Common.{sym, ap, ◌∙◌, append_assoc, append-nil, arith, length-append, length-drop, take-append-drop, length-take-le, take_at, drop-drop}
-use Rattle.std.proofs.Math.Seq.{drop-append-add}
+use Rattle.std.specs.Prelude.{◌≡◌, refl, List, [], ◌∷◌, ◌++◌, ℕ, ◌+◌, ◌≤◌, ◌<◌, length, take, drop, set}
+use Rattle.std.proofs.Common.{sym, ap, ◌∙◌, append_assoc, append-nil, add-one, arith, length-append, length-drop, take-append-drop, length-take-le, take_at, drop-drop}
+use Rattle.std.proofs.Math.Seq.{append_snoc, drop-append-add}
+use Rattle.std.proofs.lemmas.List.{set_split}
 
 -- the piece stands from `at` to `end`, where the next one goes
 pub record Put (piece text : List ℕ) (at end : ℕ) (left : List ℕ) : Type 0 where
@@ -19,6 +20,9 @@ module _ (text : List ℕ) (at : ℕ) where
   put_none l =
       let e : at + 0 ≡ at = omega arith in
       record { room = omega arith; next = sym e; written = rw (e, append-nil) (sym (take-append-drop at text)) }
+
+  pub put_one : (b : ℕ) → at < length text → Put (b ∷ []) text at (at + 1) (set text at b)
+  put_one b l = record { room = omega arith; next = refl; written = rw (add-one, append_snoc) (set_split text at b l) }
 
 -- the buffer keeps its length
 pub put_size : {piece text left : List ℕ} {at end : ℕ} → Put piece text at end left → length left ≡ length text

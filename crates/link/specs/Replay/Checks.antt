@@ -60,6 +60,14 @@ module _ (f : Framing) (slots marks areas maps results : List ℕ) where
       let limits = frame_kept f (passed _ a) in
       record { limits = limits; few = few_frames f slots l; slots_size = n; marks_size = m ∙ n; areas_size = k; maps_size = p ∙ n; results_size = q }
 
+-- the lengths that go with as many frames as the slots hold
+pub record LengthsFit (f : Framing) (slots marks areas maps results : List ℕ) : Type 0 where
+  pub slots_whole : length slots ≡ frames_in f slots * slot_count f
+  pub marks_same : length marks ≡ length slots
+  pub areas_fit : length areas ≡ frames_in f slots * area_size f
+  pub maps_same : length maps ≡ length slots
+  pub results_fit : length results ≡ frames_in f slots * 52
+
 -- what is wrong decides the number, one law for each return of the code
 module _ (f : Framing) (slots marks areas maps results : List ℕ) where
   pub setting_wrong : allowed_frame f ≡ false → 1 ≡ replay_refusal f slots marks areas maps results
@@ -74,24 +82,30 @@ module _ (f : Framing) (slots marks areas maps results : List ℕ) where
     unfolding replay_refusal
     too_many l = need_yes _ _ _ _ allowed (need_no _ _ _ (λ m. absurd (omega arith)))
 
-    pub lengths_wrong : length slots ≤ 64 * slot_count f
-        → (length slots ≡ frames_in f slots * slot_count f → length marks ≡ length slots → length areas ≡ frames_in f slots * area_size f → length maps ≡ length slots → length results ≡ frames_in f slots * 52 → ⊥)
-        → 2 ≡ replay_refusal f slots marks areas maps results
-    unfolding replay_refusal
-    lengths_wrong l wrong =
-        need_yes _ _ _ _ allowed (need_yes _ _ _ _ l
-        (need_or _ _ λ n. need_or _ _ λ m. need_or _ _ λ k. need_or _ _ λ p. need_or _ _ λ q. absurd (wrong n m k p q)))
+    module _ (few : length slots ≤ 64 * slot_count f) where
+      pub lengths_wrong : ¬ LengthsFit f slots marks areas maps results → 2 ≡ replay_refusal f slots marks areas maps results
+      unfolding replay_refusal
+      lengths_wrong wrong =
+          need_yes _ _ _ _ allowed (need_yes _ _ _ _ few
+          (need_or _ _ λ n. need_or _ _ λ m. need_or _ _ λ k. need_or _ _ λ p. need_or _ _ λ q.
+          absurd (wrong (record { slots_whole = n; marks_same = m; areas_fit = k; maps_same = p; results_fit = q }))))
 
-    pub lengths_right : length slots ≤ 64 * slot_count f → length slots ≡ frames_in f slots * slot_count f → length marks ≡ length slots → length areas ≡ frames_in f slots * area_size f → length maps ≡ length slots
-        → length results ≡ frames_in f slots * 52 → 0 ≡ replay_refusal f slots marks areas maps results
-    unfolding replay_refusal
-    lengths_right l n m k p q =
-        need_yes _ _ _ _ allowed (need_yes _ _ _ _ l (need_yes _ _ _ _ n (need_yes _ _ _ _ m (need_yes _ _ _ _ k (need_yes _ _ _ _ p (need_yes _ _ _ _ q refl))))))
+      pub lengths_right : LengthsFit f slots marks areas maps results → 0 ≡ replay_refusal f slots marks areas maps results
+      unfolding replay_refusal
+      lengths_right c =
+          need_yes _ _ _ _ allowed (need_yes _ _ _ _ few
+          (need_yes _ _ _ _ c.slots_whole (need_yes _ _ _ _ c.marks_same (need_yes _ _ _ _ c.areas_fit (need_yes _ _ _ _ c.maps_same (need_yes _ _ _ _ c.results_fit refl))))))
 
   pub replay_passes : ReplayChecked f slots marks areas maps results → 0 ≡ replay_refusal f slots marks areas maps results
   replay_passes c =
       let few : frames_in f slots * slot_count f ≤ 64 * slot_count f = mul-le-mul_right (slot_count f) c.few in
-      lengths_right c.limits (omega (arith, c.slots_size)) c.slots_size (c.marks_size ∙ sym c.slots_size) c.areas_size (c.maps_size ∙ sym c.slots_size) c.results_size
+      lengths_right c.limits (omega (arith, c.slots_size)) (record {
+        slots_whole = c.slots_size;
+        marks_same = c.marks_size ∙ sym c.slots_size;
+        areas_fit = c.areas_size;
+        maps_same = c.maps_size ∙ sym c.slots_size;
+        results_fit = c.results_size;
+      })
 
 -- frame i's parts lie in what was lent
 pub record Lies (f : Framing) (slots marks areas maps results : List ℕ) (i : ℕ) : Type 0 where

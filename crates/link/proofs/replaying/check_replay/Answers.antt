@@ -30,15 +30,20 @@ overflow_mul-f c = omega (arith, area_few _ (frame_kept _ (sym c.is_allowed.ensu
 pub returns-then-slots-frames : goal.returns-then-slots-frames
 returns-then-slots-frames c =
     lengths_wrong _ _ _ _ _ _ (frame_kept _ (sym c.is_allowed.ensures ∙ c.if-not-is_allowed.false)) c.if-size-slots.false
-    (λ n m k p q. elim c.then-slots-frames.branch [
-      | then-slots-frames-via-then-slots-frames w ↦ w.if-slots-frames.true n
-      | then-slots-frames-via-else-slots-frames+then-marks-slots w ↦ w.if-marks-slots.true m
-      | then-slots-frames-via-else-slots-frames+else-marks-slots+then-areas-frames w ↦ w.if-areas-frames.true k
-      | then-slots-frames-via-else-slots-frames+else-marks-slots+else-areas-frames+then-maps-slots w ↦ w.if-maps-slots.true p
-      | then-slots-frames-via-else-slots-frames+else-marks-slots+else-areas-frames+else-maps-slots+then-results-frames w ↦ w.if-results-frames.true q
+    (λ fit. elim c.then-slots-frames.branch [
+      | then-slots-frames-via-then-slots-frames w ↦ w.if-slots-frames.true fit.slots_whole
+      | then-slots-frames-via-else-slots-frames+then-marks-slots w ↦ w.if-marks-slots.true fit.marks_same
+      | then-slots-frames-via-else-slots-frames+else-marks-slots+then-areas-frames w ↦ w.if-areas-frames.true fit.areas_fit
+      | then-slots-frames-via-else-slots-frames+else-marks-slots+else-areas-frames+then-maps-slots w ↦ w.if-maps-slots.true fit.maps_same
+      | then-slots-frames-via-else-slots-frames+else-marks-slots+else-areas-frames+else-maps-slots+then-results-frames w ↦ w.if-results-frames.true fit.results_fit
     ])
 
 pub returns : goal.returns
 returns c =
-    lengths_right _ _ _ _ _ _ (frame_kept _ (sym c.is_allowed.ensures ∙ c.if-not-is_allowed.false)) c.if-size-slots.false
-    c.if-slots-frames.false c.if-marks-slots.false c.if-areas-frames.false c.if-maps-slots.false c.if-results-frames.false
+    lengths_right _ _ _ _ _ _ (frame_kept _ (sym c.is_allowed.ensures ∙ c.if-not-is_allowed.false)) c.if-size-slots.false (record {
+      slots_whole = c.if-slots-frames.false;
+      marks_same = c.if-marks-slots.false;
+      areas_fit = c.if-areas-frames.false;
+      maps_same = c.if-maps-slots.false;
+      results_fit = c.if-results-frames.false;
+    })

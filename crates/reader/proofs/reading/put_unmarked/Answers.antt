@@ -2,17 +2,7 @@
 use native.Mathlib.Omega.{arith}
 use Rattle.frame.specs.Frame.Limits.{slots_few, area_few}
 use Rattle.reader.specs.Spoken.Answers.{part_size, unmarked}
-use Rattle.frame.specs.Frame.{slot_count, area_size}
 use Rattle.reader.proofs.reading.put_unmarked.Goals as goal
-
-pub overflow_mul-count : goal.overflow_mul-count
-overflow_mul-count c = omega (arith, slots_few _ c.requires.0)
-
-pub overflow_sub-size : goal.overflow_sub-size
-overflow_sub-size c = omega (arith, c.requires.0.words.room)
-
-pub overflow_mul-size : goal.overflow_mul-size
-overflow_mul-size c = omega (arith, area_few _ c.requires.0)
 
 pub slice_bounds-marks-end : goal.slice_bounds-marks-end
 slice_bounds-marks-end c = omega (arith, slots_few _ c.requires.0)
@@ -34,13 +24,6 @@ slice_bounds-map-end c = omega (arith, slots_few _ c.requires.0)
 pub slice_bounds-put_answer-end-3 : goal.slice_bounds-put_answer-end-3
 slice_bounds-put_answer-end-3 c =
     part_size _ _ (slots_few _ c.requires.0) c.filled-map.ensures
-
-pub put_answer-requires : goal.put_answer-requires
-put_answer-requires c =
-    let few = c.requires.0 in
-    let area = part_size (area_size c.args.f) c.filled-area.result (area_few _ few) c.filled-area.ensures in
-    let map = part_size (slot_count c.args.f) c.filled-map.result (slots_few _ few) c.filled-map.ensures in
-    omega (arith, few.few, area_few _ few, slots_few _ few)
 
 pub returns : goal.returns
 returns c =
