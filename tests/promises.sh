@@ -1,12 +1,12 @@
 #!/usr/bin/env bash
-# docs/PROMISES.md names every public call of every library, and every must-fail edit.
+# docs/PROMISES.md names every public call of every library, its methods too, and every must-fail edit.
 status=0
 for source in crates/*/src/*.rt; do
   crate=${source#crates/}
   crate=${crate%%/*}
   [ -f "crates/$crate/src/lib.rt" ] || continue
-  for call in $(sed -nE 's/^pub (extern "C" )?fn ([a-z_0-9]*).*/\2/p' "$source"); do
-    grep -qE "\`([a-z_]+::)*$call[(\`]" docs/PROMISES.md || { echo "docs/PROMISES.md does not name $call of $crate"; status=1; }
+  for call in $(sed -nE 's/^ *pub (extern "C" )?fn ([a-z_0-9]*).*/\2/p' "$source"); do
+    grep -qE "\`([A-Za-z_]+::)*$call[(\`]" docs/PROMISES.md || { echo "docs/PROMISES.md does not name $call of $crate"; status=1; }
   done
 done
 for edit in crates/*/must-fail/*.edit; do

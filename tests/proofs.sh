@@ -42,6 +42,8 @@ for library in $libraries; do
       fail "$library hands on $call of $from, which is not among the libraries that are looked at"
     fi
   done <<<"$calls"
+  # A method of a type that a user holds is an entry point too.
+  awk '/^    pub fn /, /^    [{]/' "$source"/*.rt | grep requires && fail "a method of $library has a requires"
 done
 
 # C cannot be held to a `requires`, and no call for C, nor what it shows an answer by, is without a promise.
@@ -49,5 +51,8 @@ grep -n requires crates/radio/src/*.rt && fail "a call for C has a requires"
 functions=$(cat crates/radio/src/*.rt | grep -cE '^(pub )?(extern "C" )?fn ')
 promises=$(cat crates/radio/src/*.rt | grep -c '^    ensures { ')
 [ "$functions" -eq "$promises" ] || fail "radio has $promises promises of $functions functions"
+conversions=$(cat crates/radio/src/*.rt | grep -c '^impl From<')
+promises=$(cat crates/radio/src/*.rt | grep -c '^    ghost from_gives = ')
+[ "$conversions" -eq "$promises" ] || fail "radio has $promises promises of $conversions conversions"
 grep -q '^pub extern "C" fn ' crates/radio/src/*.rt || fail "radio has no call for C"
 exit $status
