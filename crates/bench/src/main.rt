@@ -2,17 +2,14 @@
 // holds, or the number by which it is refused.
 #![tactic(auto)]
 
-ghost use Rattle.std.specs.Prelude.{◌≡◌, length};
 ghost use Rattle.io.specs.Counts.{IsPrefixLen};
 
 const STDIN: i32 = 0;
 
-const STDOUT: i32 = 1;
-
-// Reads as much as decides the answer, and no more: input without an end is answered too.
+// Reads as much as decides the answer, and no more: input without an end is answered too. `io::read_full` counts what a short input holds,
+// where std's `read_exact` only fails, and std's `read_to_end` needs the heap.
 #[tactic(auto, using(reader::specs::Head::wanted_bounds))]
-fn read_input(input: &mut [u8]) -> usize
-    requires { 4096 ≡ length input.old }
+fn read_input(input: &mut [u8; 4096]) -> usize
     ensures { IsPrefixLen result input.new }
 {
     let head = io::read_full(STDIN, &mut input[..4]);
@@ -23,10 +20,10 @@ fn read_input(input: &mut [u8]) -> usize
     4 + io::read_full(STDIN, &mut input[4..end])
 }
 
-fn main() {
-    let mut input = io::buffer();
-    let mut text = [0u8; 30000];
+fn main(rt: HostRuntime) -> std::io::Result<()> {
+    let mut input = [0; 4096];
+    let mut text = [0; 30000];
     let n = read_input(&mut input);
     let count = reader::report(&input[..n], &mut text);
-    io::write_all(STDOUT, &text[..count]);
+    rt.write_all(&text[..count])
 }

@@ -1,8 +1,8 @@
 -- A digit's rows in a table: they are sums of its bits' rows, so each bit doubles them.
 -- Assumes nothing.
-use Rattle.std.specs.Prelude.{◌≡◌, refl, List, ℕ, ◌+◌, ◌-◌, ◌^◌, ◌<◌, ◌≤◌, length, set}
-use Rattle.std.proofs.Common.{sym, ap, ap₂, ◌∙◌, arith, length-set, get_or-set_same, get_or-set_other}
-use Rattle.std.proofs.Math.Decide.{ℕ_discrete, dec_lt}
+use Rattle.std.specs.Prelude.{◌≡◌, List, ℕ, ◌+◌, ◌-◌, ◌^◌, ◌<◌, length, set}
+use Rattle.std.proofs.Common.{sym, ap, ap₂, ◌∙◌, arith, get_or-set_same}
+use Rattle.std.proofs.Math.Decide.{dec_lt}
 use Rattle.std.specs.Int.Bits.{bit_xor}
 use Rattle.algebra.specs.Tests.{at}
 use Rattle.packed.specs.Combs.{comb, comb_zero, comb_upper}
@@ -43,20 +43,3 @@ pub record Twicing (t : List ℕ) (from s x n : ℕ) (u : List ℕ) : Type 0 whe
   pub size : length u ≡ length t
   pub kept : (j : ℕ) → j < from + s → at u j ≡ at t j
   pub upper : (v : ℕ) → v < n → at u (from + s + v) ≡ bit_xor (at t (from + v)) x
-
-pub twicing_none : (t : List ℕ) (from s x : ℕ) → Twicing t from s x 0 t
-twicing_none t from s x = record { size = refl; kept = λ j l. refl; upper = λ v l. absurd (omega arith) }
-
-pub twicing_more : (t : List ℕ) (from s x n : ℕ) (u : List ℕ) → n < s → from + s + n < length t → Twicing t from s x n u
-    → Twicing t from s x (n + 1) (set u (from + s + n) (bit_xor (at u (from + n)) x))
-twicing_more t from s x n u l k h = record {
-  size = length-set u _ _ ∙ h.size;
-  kept = λ j i. get_or-set_other u (from + s + n) j _ 0 (omega arith) ∙ h.kept j i;
-  upper = λ v i. elim (ℕ_discrete v n) [
-    | yes e ↦ rw (e, get_or-set_same u (from + s + n) (bit_xor (at u (from + n)) x) 0 (omega (arith, h.size)), h.kept (from + n) (omega arith))
-    | no ne ↦ get_or-set_other u (from + s + n) (from + s + v) _ 0 (omega arith) ∙ h.upper v (omega arith)
-  ];
-}
-
-pub twicing_all : (t : List ℕ) (from s x n : ℕ) (u : List ℕ) → s ≤ n → Twicing t from s x n u → Twice t u from s x
-twicing_all t from s x n u l h = record { size = h.size; kept = h.kept; upper = λ v i. h.upper v (omega arith) }

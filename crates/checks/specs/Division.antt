@@ -1,6 +1,6 @@
 -- The message divided in two words: what the loops of `remainder` keep, and their turns.
 -- Assumes nothing.
-use Rattle.std.specs.Prelude.{◌≡◌, refl, List, ℕ, ◌+◌, ◌-◌, ◌*◌, ◌/◌, ◌%◌, ◌^◌, ◌<◌, ◌≤◌, length, replicate}
+use Rattle.std.specs.Prelude.{◌≡◌, refl, List, ℕ, ◌+◌, ◌-◌, ◌/◌, ◌%◌, ◌^◌, ◌<◌, ◌≤◌, length, replicate}
 use Rattle.std.proofs.Common.{ap, ◌∙◌, arith, length-append, pow_pos}
 use Rattle.std.specs.Int.Bits.{bit_xor}
 use Rattle.std.proofs.lemmas.List.{length-replicate}
@@ -11,6 +11,7 @@ use Rattle.field.proofs.Elements.{K}
 use Rattle.checks.specs.Roots.{root}
 use Rattle.checks.specs.Checks.{divisor, Checks, Dividing, dividing_none, dividing_more, dividing_all}
 use Rattle.algebra.specs.Bytes.{byte, whole, bytes}
+use Rattle.checks.specs.Symbols.{One, Four}
 use Rattle.checks.specs.Rows.{Rows, both, four, turn_one, turn_four}
 
 -- the two words a and b are the register after i symbols of the message, for whatever code the tables are of
@@ -33,21 +34,20 @@ divided_none low high message a b ea eb = record {
 }
 
 module _ (low high message : List ℕ) (i a b c d : ℕ) (h : Divided low high message i a b) (lc : c < 2 ^ 64) (ld : d < 2 ^ 64) where
-  pub divided_one : (s : ℕ) → i < length message → s ≡ at message i → s < 256
+  pub divided_one : (s : ℕ) → i < length message → One message i s
       → whole c d ≡ bit_xor (whole a b / 256) (both low high 0 (bit_xor s (a % 256))) → Divided low high message (i + 1) c d
-  divided_one s l es ls e = record {
+  divided_one s l o e = record {
     first = lc;
     second = ld;
     within = omega arith;
     rest = λ m g n rows.
         dividing_more m g message i (bytes a b) (bytes c d) (h.rest m g n rows) l
-        (turn_one m g low high n rows a b c d h.first h.second lc ld s ls e ∙ ap (λ (x : ℕ). fed (K m) g x (bytes a b)) es);
+        (turn_one m g low high n rows a b c d h.first h.second lc ld s o.byte e ∙ ap (λ (x : ℕ). fed (K m) g x (bytes a b)) o.value);
   }
 
-  pub divided_four : (t : ℕ) → i + 4 ≤ length message → t ≡ at message i + at message (i + 1) * 256 + at message (i + 2) * 65536 + at message (i + 3) * 16777216
-      → ((j : ℕ) → at message j < 256)
+  pub divided_four : (t : ℕ) → i + 4 ≤ length message → Four message i t
       → whole c d ≡ bit_xor (whole a b / 4294967296) (four low high (bit_xor t (a % 4294967296))) → Divided low high message (i + 4) c d
-  divided_four t l et small e = record {
+  divided_four t l o e = record {
     first = lc;
     second = ld;
     within = l;
@@ -64,7 +64,7 @@ module _ (low high message : List ℕ) (i a b c d : ℕ) (h : Divided low high m
         let d3 = dividing_more m g message (i + 1 + 1) f2 f3 d2 (omega arith) (ap (λ (x : ℕ). fed (K m) g (at message x) f2) (let k : i + 2 ≡ i + 1 + 1 = omega arith in k)) in
         let k4 : i + 1 + 1 + 1 + 1 ≡ i + 4 = omega arith in
         rw k4 at (dividing_more m g message (i + 1 + 1 + 1) f3 (bytes c d) d3 (omega arith)
-        (turn_four m g low high n rows a b c d h.first h.second lc ld p q r s (small _) (small _) (small _) (small _) t (bit_xor t (a % 4294967296)) et refl e
+        (turn_four m g low high n rows a b c d h.first h.second lc ld p q r s (o.bytes _) (o.bytes _) (o.bytes _) (o.bytes _) t (bit_xor t (a % 4294967296)) o.value refl e
         ∙ ap (λ (x : ℕ). fed (K m) g (at message x) f3) (let k : i + 3 ≡ i + 1 + 1 + 1 = omega arith in k)));
   }
 

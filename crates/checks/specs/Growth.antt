@@ -78,21 +78,25 @@ up_root m b j k =
     ap (λ (z : ℕ). prod m z (root m b j)) (mul_comm (K m) 2 (pow (K m) 2 k)) ∙ mul_assoc (K m) (pow (K m) 2 k) 2 (root m b j)
     ∙ ap (prod m (pow (K m) 2 k)) (root_next m b j (root m b j) refl)
 
-module _ (m b j p q r s t u v w z : ℕ) (f : Factored m (root m b j) (p ∷ q ∷ r ∷ s ∷ t ∷ u ∷ v ∷ w ∷ [])) (e : z ≡ prod m 2 w) where
-  later : (k : ℕ) → k < 8 → at (q ∷ r ∷ s ∷ t ∷ u ∷ v ∷ w ∷ z ∷ []) k ≡ prod m (pow (K m) 2 (suc k)) (root m b j)
-  unfolding pow
-  later zero l = f.each 1 (omega arith)
-  later (suc zero) l = f.each 2 (omega arith)
-  later (suc (suc zero)) l = f.each 3 (omega arith)
-  later (suc (suc (suc zero))) l = f.each 4 (omega arith)
-  later (suc (suc (suc (suc zero)))) l = f.each 5 (omega arith)
-  later (suc (suc (suc (suc (suc zero))))) l = f.each 6 (omega arith)
-  later (suc (suc (suc (suc (suc (suc zero)))))) l = f.each 7 (omega arith)
-  later (suc (suc (suc (suc (suc (suc (suc zero))))))) l = e ∙ ap (prod m 2) (f.each 7 (omega arith)) ∙ sym (mul_assoc (K m) 2 (pow (K m) 2 7) (root m b j))
-  later (suc (suc (suc (suc (suc (suc (suc (suc k)))))))) l = absurd (omega arith)
+module _ (m b j z : ℕ) (l : List ℕ) (f : Factored m (root m b j) l) (e : z ≡ prod m 2 (at l 7)) where
+  next : List ℕ
+  next = at l 1 ∷ at l 2 ∷ at l 3 ∷ at l 4 ∷ at l 5 ∷ at l 6 ∷ at l 7 ∷ z ∷ []
 
-  pub factor_next : Factored m (root m b (j + 1)) (q ∷ r ∷ s ∷ t ∷ u ∷ v ∷ w ∷ z ∷ [])
-  factor_next = record { each = λ k l. later k l ∙ up_root m b j k }
+  later : (k : ℕ) → k < 8 → at next k ≡ prod m (pow (K m) 2 (suc k)) (root m b j)
+  unfolding pow next
+  later zero h = f.each 1 (omega arith)
+  later (suc zero) h = f.each 2 (omega arith)
+  later (suc (suc zero)) h = f.each 3 (omega arith)
+  later (suc (suc (suc zero))) h = f.each 4 (omega arith)
+  later (suc (suc (suc (suc zero)))) h = f.each 5 (omega arith)
+  later (suc (suc (suc (suc (suc zero))))) h = f.each 6 (omega arith)
+  later (suc (suc (suc (suc (suc (suc zero)))))) h = f.each 7 (omega arith)
+  later (suc (suc (suc (suc (suc (suc (suc zero))))))) h = e ∙ ap (prod m 2) (f.each 7 (omega arith)) ∙ sym (mul_assoc (K m) 2 (pow (K m) 2 7) (root m b j))
+  later (suc (suc (suc (suc (suc (suc (suc (suc k)))))))) h = absurd (omega arith)
+
+  pub factor_next : Factored m (root m b (j + 1)) (at l 1 ∷ at l 2 ∷ at l 3 ∷ at l 4 ∷ at l 5 ∷ at l 6 ∷ at l 7 ∷ z ∷ [])
+  unfolding next
+  factor_next = record { each = λ k h. later k h ∙ up_root m b j k }
 
 -- those of the first
 pub factor_first : (m b x : ℕ) (l : List ℕ) → x ≡ root m b 0 → Factored m x l → Factored m (root m b 0) l
@@ -102,9 +106,6 @@ pub first_below : (m b x : ℕ) → x ≡ root m b 0 → x < 2 ^ wide m
 first_below m b x e = rw e (pow_below m (b + 0))
 
 -- the words are the code's polynomial
-pub growing_all : (m b r j x y : ℕ) (l : List ℕ) → r ≡ j → Growing m b j x y l → bytes x y ≡ divisor m b r
-growing_all m b r j x y l e g = rw e g.polynomial
-
 -- that of EN 300 421
 pub stored : (m b r : ℕ) → m ≡ 8 → b ≡ 0 → r ≡ 16 → bytes 585135094770437435 4261586547732201891 ≡ divisor m b r
 unfolding divisor bytes byte whole tabulate

@@ -1,8 +1,8 @@
 -- What a received word leaves of its message's check symbols: r symbols with the same values at the code's roots as the whole word.
 -- Assumes nothing.
-use Rattle.std.specs.Prelude.{◌≡◌, refl, List, ◌++◌, ℕ, zero, suc, ◌+◌, ◌%◌, ◌^◌, ◌<◌, ◌≤◌, length, take, replicate, set}
-use Rattle.std.proofs.Common.{sym, ap, ap₂, ◌∙◌, mod-eq_of_lt, arith, length-set, pow_pos, length-take-le, get_or-take, get_or-set_same, get_or-set_other}
-use Rattle.std.proofs.Math.Decide.{ℕ_discrete, dec_lt}
+use Rattle.std.specs.Prelude.{◌≡◌, List, ◌++◌, ℕ, ◌%◌, ◌^◌, ◌<◌, ◌≤◌, length, take, replicate}
+use Rattle.std.proofs.Common.{sym, ap, ap₂, ◌∙◌, mod-eq_of_lt, arith, pow_pos, length-take-le, get_or-take}
+use Rattle.std.proofs.Math.Decide.{dec_lt}
 use Rattle.std.specs.Int.Bits.{bit_xor, xor_self, xor_zero_r}
 use Rattle.std.proofs.Math.ListN.{get_or-eq_default}
 use Rattle.algebra.specs.Tests.{at}
@@ -15,6 +15,7 @@ use Rattle.field.specs.Elements.{wide}
 use Rattle.field.proofs.Elements.{K}
 use Rattle.checks.specs.Roots.{root, spots}
 use Rattle.checks.specs.Checks.{Checks}
+use Rattle.checks.specs.Starts.{zeros}
 use Rattle.checks.specs.Syndromes.{Syndromes}
 
 -- `rest` counts as the word does at each of the r roots
@@ -31,25 +32,8 @@ pub record Padded (symbols : List ℕ) (i : ℕ) (r : List ℕ) : Type 0 where
 abbrev pub left_at : (checks received : List ℕ) → ℕ → ℕ
 left_at checks received i = bit_xor (at checks i) (at received i)
 
--- ---- the loop that pads
-
 pub none_there : (n j : ℕ) → at (replicate n 0) j ≡ 0
-none_there zero j = refl
-none_there (suc n) zero = refl
-none_there (suc n) (suc j) = none_there n j
-
-pub padded_none : (symbols : List ℕ) → Padded symbols 0 (replicate 16 0)
-padded_none symbols = record { size = refl; first = λ j l. absurd (omega arith); behind = λ j l. none_there 16 j }
-
-pub padded_more : (symbols : List ℕ) (i : ℕ) (r : List ℕ) → i < 16 → Padded symbols i r → Padded symbols (i + 1) (set r i (at symbols i))
-padded_more symbols i r l h = record {
-  size = length-set r i _ ∙ h.size;
-  first = λ j k. elim (ℕ_discrete j i) [
-    | yes e ↦ rw (e, get_or-set_same r i (at symbols i) 0 (omega (arith, h.size)))
-    | no e ↦ get_or-set_other r i j _ 0 e ∙ h.first j (omega arith)
-  ];
-  behind = λ j k. get_or-set_other r i j _ 0 (omega arith) ∙ h.behind j (omega arith);
-}
+none_there n j = (zeros n).each j
 
 -- ---- the check symbols' sums with those received are left over
 

@@ -30,6 +30,10 @@ pub record Rows (parts m : ℕ) (g low high : List ℕ) : Type 0 where
 unfoldable pub both : List ℕ → List ℕ → ℕ → ℕ → ℕ
 both low high k f = bit_xor (entry low high (32 * k + f % 16)) (entry low high (32 * k + 16 + f / 16))
 
+-- what the symbol s leaves in the register whose words are a and b
+abbrev pub after_symbol : (low high : List ℕ) (a b s : ℕ) → ℕ
+after_symbol low high a b s = bit_xor (whole a b / 256) (both low high 0 (bit_xor s (a % 256)))
+
 module _ (parts m : ℕ) (g low high : List ℕ) (rows : Rows parts m g low high) where
   pub both_at : (k f i : ℕ) → k < parts → f < 256 → byte (both low high k f) i ≡ row (K m) (at g) k f i
   unfolding both
@@ -50,6 +54,10 @@ unfoldable pub four : List ℕ → List ℕ → ℕ → ℕ
 four low high x =
     bit_xor (bit_xor (both low high 0 (x / 16777216 % 256)) (both low high 1 (x / 65536 % 256)))
     (bit_xor (both low high 2 (x / 256 % 256)) (both low high 3 (x % 256)))
+
+-- what the four symbols of t leave in the register
+abbrev pub after_symbols : (low high : List ℕ) (a b t : ℕ) → ℕ
+after_symbols low high a b t = bit_xor (whole a b / 4294967296) (four low high (bit_xor t (a % 4294967296)))
 
 -- the first bytes of two words are those of the lower one, which are those of its half
 byte_0 : (a b : ℕ) → byte (whole a b) 0 ≡ a % 256

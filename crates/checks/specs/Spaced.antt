@@ -1,16 +1,13 @@
 -- Symbols that stand apart from each other, as those of one word do in its slots: they are divided where they stand, and none is copied.
 -- Assumes nothing.
-use Rattle.std.specs.Prelude.{◌≡◌, Bool, true, false, ◌≢◌, List, ℕ, ◌+◌, ◌*◌, ◌/◌, ◌%◌, ◌^◌, ◌≤◌, ◌<◌, length, take, drop}
+use Rattle.std.specs.Prelude.{◌≡◌, Bool, true, false, ◌≢◌, List, ℕ, ◌+◌, ◌*◌, ◌≤◌, ◌<◌, length, take, drop}
 use Rattle.std.proofs.Math.Path.{refl}
 use Rattle.std.proofs.Common.{sym, ap, ◌∙◌, add-mul, arith, length-take-le, get_or-take, get_or-drop}
 use Rattle.std.proofs.Math.Decide.{dec_lt}
-use Rattle.std.specs.Int.Bits.{bit_xor}
 use Rattle.std.proofs.Math.ListN.{get_or-eq_default}
 use Rattle.algebra.specs.Tests.{at}
 use Rattle.algebra.specs.Lists.{tabulate, length_tabulate, get_or_tabulate, tabulated}
-use Rattle.algebra.specs.Bytes.{whole}
-use Rattle.checks.specs.Rows.{both, four}
-use Rattle.checks.specs.Division.{Divided, divided_one, divided_four}
+use Rattle.checks.specs.Symbols.{One, Four}
 
 -- n symbols, `step` apart, from the one at `first` on
 unfoldable pub spaced : (step first n : ℕ) → List ℕ → List ℕ
@@ -51,26 +48,22 @@ module _ (step first n : ℕ) (slots : List ℕ) where
     | no l ↦ rw (get_or-eq_default symbols 0 {n = j} (omega (arith, length_spaced))) (omega arith)
   ]
 
-  -- ---- they are divided, one by one or four at a turn
+  -- ---- as the register reads them
 
-  module _ (low high : List ℕ) (i a b : ℕ) (h : Divided low high symbols i a b) where
-    pub spaced_all : n ≤ i → Divided low high symbols n a b
-    spaced_all l = let e : i ≡ n = omega (arith, h.within, length_spaced) in rw e at h
+  module _ (i t : ℕ) where
+    pub spaced_one : i < n → t ≡ at slots (i * step + first) → t < 256 → One symbols i t
+    spaced_one l e b = record { value = e ∙ sym (spaced_at i l); byte = b }
 
-    module _ (c d : ℕ) (lc : c < 2 ^ 64) (ld : d < 2 ^ 64) where
-      pub spaced_one : (s : ℕ) → i < n → s ≡ at slots (i * step + first) → s < 256 → whole c d ≡ bit_xor (whole a b / 256) (both low high 0 (bit_xor s (a % 256)))
-          → Divided low high symbols (i + 1) c d
-      spaced_one s l es ls e = divided_one low high symbols i a b c d h lc ld s (rw length_spaced l) (es ∙ sym (spaced_at i l)) ls e
-
-      pub spaced_four : (t : ℕ) → i + 4 ≤ n
-          → t ≡ at slots (i * step + first) + at slots (i * step + first + step) * 256 + at slots (i * step + first + 2 * step) * 65536 + at slots (i * step + first + 3 * step) * 16777216
-          → ((j : ℕ) → at slots j < 256)
-          → whole c d ≡ bit_xor (whole a b / 4294967296) (four low high (bit_xor t (a % 4294967296))) → Divided low high symbols (i + 4) c d
-      spaced_four t l et small e =
-          let one : 1 * step ≡ step = omega arith in
-          let next : at slots (i * step + first + step) ≡ at symbols (i + 1) = rw one at (spaced_further i 1 (omega arith)) in
-          divided_four low high symbols i a b c d h lc ld t (rw length_spaced l)
-          (et ∙ rw (← spaced_at i (omega arith), next, spaced_further i 2 (omega arith), spaced_further i 3 (omega arith))) (spaced_bytes small) e
+    pub spaced_four : ((j : ℕ) → at slots j < 256) → i + 4 ≤ n
+        → t ≡ at slots (i * step + first) + at slots (i * step + first + step) * 256 + at slots (i * step + first + 2 * step) * 65536 + at slots (i * step + first + 3 * step) * 16777216
+        → Four symbols i t
+    spaced_four small l e =
+        let one : 1 * step ≡ step = omega arith in
+        let next : at slots (i * step + first + step) ≡ at symbols (i + 1) = rw one at (spaced_further i 1 (omega arith)) in
+        record {
+          value = e ∙ rw (← spaced_at i (omega arith), next, spaced_further i 2 (omega arith), spaced_further i 3 (omega arith));
+          bytes = spaced_bytes small;
+        }
 
 -- ---- check symbols beside those that stand behind k symbols
 
@@ -82,18 +75,6 @@ behind_at slots step first k j = at slots ((k + j) * step + first)
 pub record Agree (checks : List ℕ) (r : ℕ) (slots : List ℕ) (step first k : ℕ) (t : Bool) : Type 0 where
   pub same : t ≡ true → (j : ℕ) → j < r → at checks j ≡ behind_at slots step first k j
   pub other : t ≡ false → (j : ℕ) × (j < r) × (at checks j ≢ behind_at slots step first k j)
-
-pub agree_all : (checks : List ℕ) (r : ℕ) (slots : List ℕ) (step first k i : ℕ) → r ≤ i → ((j : ℕ) → j < i → at checks j ≡ behind_at slots step first k j) → Agree checks r slots step first k true
-agree_all checks r slots step first k i l h = record { same = λ _ j a. h j (omega arith); other = λ e. absurd (differ e) }
-  where
-    differ : true ≡ false → ⊥
-    differ e = let z : ◌≡◌ {A = ℕ} 0 1 = cc in omega arith
-
-pub agree_not : (checks : List ℕ) (r : ℕ) (slots : List ℕ) (step first k i : ℕ) → i < r → at checks i ≢ behind_at slots step first k i → Agree checks r slots step first k false
-agree_not checks r slots step first k i l ne = record { same = λ e. absurd (differ e); other = λ _. (i, l, ne) }
-  where
-    differ : false ≡ true → ⊥
-    differ e = let z : ◌≡◌ {A = ℕ} 0 1 = cc in omega arith
 
 -- a front of them, and the rest
 module _ (step first n : ℕ) (slots : List ℕ) (k : ℕ) (l : k ≤ n) where

@@ -2,8 +2,8 @@
 -- Assumes nothing.
 use Rattle.std.specs.Prelude.{◌≡◌, refl, List, ℕ, zero, suc, ◌+◌, ◌*◌, ◌/◌, ◌%◌, ◌^◌, ◌<◌, ◌≤◌, length, set}
 use Rattle.std.proofs.Math.Path.{ap}
-use Rattle.std.proofs.Common.{ap₂, ◌∙◌, zero-add, add_comm, arith, length-set, pow_pos, pow-add, get_or-set_same, get_or-set_other}
-use Rattle.std.proofs.Math.Decide.{ℕ_discrete, dec_lt}
+use Rattle.std.proofs.Common.{ap₂, ◌∙◌, zero-add, add_comm, arith, length-set, pow_pos, pow-add, get_or-set_other}
+use Rattle.std.proofs.Math.Decide.{dec_lt}
 use Rattle.std.specs.Int.Bits.{bit_xor}
 use Rattle.std.proofs.lemmas.Nat.{xor_lt}
 use Rattle.algebra.specs.Tests.{at}
@@ -114,27 +114,6 @@ pub record Stepping (low high p q : List ℕ) (n : ℕ) (u v : List ℕ) : Type 
   pub done : (b : ℕ) → b < n → whole (at u b) (at v b) ≡ bit_xor (whole (at p b) (at q b) / 256) (both low high 0 (bit_xor 0 (at p b % 256)))
   pub todo_l : (b : ℕ) → n ≤ b → at u b ≡ at p b
   pub todo_h : (b : ℕ) → n ≤ b → at v b ≡ at q b
-
-pub stepping_none : (low high p q : List ℕ) → Stepping low high p q 0 p q
-stepping_none low high p q = record { size_l = refl; size_h = refl; small = λ b l. absurd (omega arith); done = λ b l. absurd (omega arith); todo_l = λ b l. refl; todo_h = λ b l. refl }
-
-pub stepping_more : (low high p q : List ℕ) (n : ℕ) (u v : List ℕ) (c d : ℕ) → length p ≡ 8 → length q ≡ 8 → n < 8 → c < 2 ^ 64 → Stepping low high p q n u v
-    → whole c d ≡ bit_xor (whole (at u n) (at v n) / 256) (both low high 0 (bit_xor 0 (at u n % 256))) → Stepping low high p q (n + 1) (set u n c) (set v n d)
-stepping_more low high p q n u v c d lp lq l lc h e = record {
-  size_l = length-set u n c ∙ h.size_l;
-  size_h = length-set v n d ∙ h.size_h;
-  small = λ b k. elim (ℕ_discrete b n) [
-    | yes y ↦ rw (y, get_or-set_same u n c 0 (omega (arith, h.size_l))) lc
-    | no y ↦ rw (get_or-set_other u n b c 0 y) (h.small b (omega arith))
-  ];
-  done = λ b k. elim (ℕ_discrete b n) [
-    | yes y ↦ rw (y, get_or-set_same u n c 0 (omega (arith, h.size_l)), get_or-set_same v n d 0 (omega (arith, h.size_h)))
-        (rw (h.todo_l n (omega arith), h.todo_h n (omega arith)) at e)
-    | no y ↦ rw (get_or-set_other u n b c 0 y, get_or-set_other v n b d 0 y) (h.done b (omega arith))
-  ];
-  todo_l = λ b k. get_or-set_other u n b c 0 (omega arith) ∙ h.todo_l b (omega arith);
-  todo_h = λ b k. get_or-set_other v n b d 0 (omega arith) ∙ h.todo_h b (omega arith);
-}
 
 pub basis_more : (parts m : ℕ) (g low high p q u v : List ℕ) (k n : ℕ) → 0 < parts → 8 ≤ n → Rows parts m g low high → Basis m g k p q → Stepping low high p q n u v → Basis m g (k + 1) u v
 unfolding row

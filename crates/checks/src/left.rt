@@ -11,11 +11,7 @@ pub fn padded(symbols: &[u8]) -> [u8; 16]
     ensures { Padded symbols.now (length symbols.now) result }
 {
     let mut all = [0u8; 16];
-    let mut i = 0;
-    while i < symbols.len() {
-        all[i] = symbols[i];
-        i += 1;
-    }
+    all[..symbols.len()].copy_from_slice(symbols);
     all
 }
 
@@ -24,10 +20,8 @@ pub fn left_over(checks: [u8; 16], received: [u8; 16]) -> [u8; 16]
     ensures { Filled 16 (left_at checks received) 16 result }
 {
     let mut rest = [0u8; 16];
-    let mut i = 0;
-    while i < 16 {
+    for i in 0..16 {
         rest[i] = checks[i] ^ received[i];
-        i += 1;
     }
     rest
 }
@@ -37,12 +31,10 @@ pub fn agree(checks: [u8; 16], r: usize, slots: &[u8], step: usize, first: usize
     requires { (r ≤ 16) × (k ≤ 255) × Within step first (k + r) (length slots.now) }
     ensures { Agree checks r slots.now step first k result }
 {
-    let mut j = 0;
-    while j < r {
+    for j in 0..r {
         if checks[j] != slots[(k + j) * step + first] {
             return false;
         }
-        j += 1;
     }
     true
 }

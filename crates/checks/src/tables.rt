@@ -4,12 +4,14 @@ ghost use Rattle.std.specs.Prelude.{◌≡◌, ◌+◌, ◌≤◌, length};
 ghost use Rattle.algebra.specs.Bytes.{bytes};
 ghost use Rattle.field.specs.Elements.{wide};
 ghost use Rattle.checks.specs.Checks.{divisor};
-ghost use Rattle.checks.specs.Starts.{Elements, Zeros};
+ghost use Rattle.checks.specs.Starts.{Elements};
 ghost use Rattle.checks.specs.Digits.{Twice};
 ghost use Rattle.checks.specs.Tables.{Digits, Put, Stepping, Basis};
 ghost use Rattle.checks.specs.Rows.{Rows};
+ghost use Rattle.checks.specs.OneWord.{Alone, Unused, Enough};
 
 use crate::generator::generator;
+use crate::rows::{Bits, Table};
 use crate::turns::fed;
 use packed::pair::{Pair, doubled};
 
@@ -18,10 +20,8 @@ fn twice(table: &mut [u64; 128], from: usize, s: usize, x: u64)
     requires { (length table.old ≡ 128) × (from + s + s ≤ 128) }
     ensures { Twice table.old table.new from s x }
 {
-    let mut v = 0;
-    while v < s {
+    for v in 0..s {
         table[from + s + v] = table[from + v] ^ x;
-        v += 1;
     }
 }
 
@@ -46,28 +46,6 @@ pub fn put(table: &mut [u64; 128], from: usize, p: &[u64; 8])
     digit(table, from + 16, p, 4);
 }
 
-// The rows of the next part's bits: each is fed a zero.
-fn step(low: &[u64; 128], high: &[u64; 128], p: &mut [u64; 8], q: &mut [u64; 8])
-    requires { (length p.old ≡ 8) × (length q.old ≡ 8) }
-    ensures { Stepping low.now high.now p.old q.old 8 p.new q.new }
-{
-    let mut i = 0;
-    while i < 8 {
-        let n = fed(
-            low,
-            high,
-            Pair {
-                low: p[i],
-                high: q[i],
-            },
-            0,
-        );
-        p[i] = n.low;
-        q[i] = n.high;
-        i += 1;
-    }
-}
-
 // How many bits an element has.
 pub fn width(m: usize) -> usize
     ensures { (result ≡ wide m) × (result ≤ 8) }
@@ -79,35 +57,43 @@ pub fn width(m: usize) -> usize
 }
 
 // The rows of the first part's bits: the polynomial times 1, 2, 4, .. below 2^m.
-fn doubles(m: usize, g: Pair, p: &mut [u64; 8], q: &mut [u64; 8])
-    requires { (length p.old ≡ 8) × (length q.old ≡ 8) × Elements m (bytes g.low g.high) × Zeros p.old × Zeros q.old }
-    ensures { Basis m (bytes g.low g.high) 0 p.new q.new }
+fn first_bits<T: Table>(m: usize, g: Pair) -> Bits
+    requires { Elements m (bytes g.low g.high) × Alone T.alone g.high }
+    ensures basis { Basis m (bytes g.low g.high) 0 result.low result.high }
+    ensures unused { Unused T.alone result.high }
 {
+    let mut bits = Bits {
+        low: [0; 8],
+        high: [0; 8],
+    };
     let mut d = g;
-    let n = width(m);
-    let mut i = 0;
-    while i < n {
-        p[i] = d.low;
-        q[i] = d.high;
+    for i in 0..width(m) {
+        T::set_bit(&mut bits, i, d);
         d = doubled(m, d);
-        i += 1;
+    }
+    bits
+}
+
+// The rows of the next part's bits: each is fed a zero.
+fn step<T: Table>(table: &T, bits: &mut Bits)
+    requires { Unused T.alone bits.old.high }
+    ensures stepped { Stepping (T.low table.now) (T.high table.now) bits.old.low bits.old.high 8 bits.new.low bits.new.high }
+    ensures unused { Unused T.alone bits.new.high }
+{
+    for i in 0..8 {
+        let row = fed(table, T::bit(bits, i), 0);
+        T::set_bit(bits, i, row);
     }
 }
 
-// The tables of the code with the r roots from a^b on.
-pub fn prepare(m: usize, b: usize, r: usize, low: &mut [u64; 128], high: &mut [u64; 128])
-    requires { (b ≤ 1) × (r ≤ 16) × (length low.old ≡ 128) × (length high.old ≡ 128) }
-    ensures { Rows 4 m (divisor m b r) low.new high.new }
+// The table of the code with the r roots from a^b on.
+pub fn prepare<T: Table>(m: usize, b: usize, r: usize, table: &mut T)
+    requires { (b ≤ 1) × (r ≤ 16) × Enough T.alone r }
+    ensures { Rows 4 m (divisor m b r) (T.low table.new) (T.high table.new) }
 {
-    let g = generator(m, b, r);
-    let mut p = [0u64; 8];
-    let mut q = [0u64; 8];
-    doubles(m, g, &mut p, &mut q);
-    let mut s = 0;
-    while s < 4 {
-        put(low, 32 * s, &p);
-        put(high, 32 * s, &q);
-        step(low, high, &mut p, &mut q);
-        s += 1;
+    let mut bits = first_bits::<T>(m, generator(m, b, r));
+    for part in 0..4 {
+        table.put(32 * part, &bits);
+        step(table, &mut bits);
     }
 }

@@ -16,7 +16,7 @@ use Rattle.algebra.specs.Horner.{pow}
 use Rattle.algebra.specs.Polynomials.{ev, ev_ext}
 use Rattle.field.specs.Elements.{wide, prod}
 use Rattle.field.proofs.Elements.{K}
-use Rattle.decoder.specs.Places.{locator, Locators}
+use Rattle.decoder.specs.Places.{locator}
 use Rattle.checks.specs.Syndromes.{lane_after}
 
 -- a place is marked, or the polynomial's value y there is the field's zero
@@ -60,11 +60,6 @@ module _ (m mark y : ℕ) where
   unfolding flag_of
   flag_complete p = omega (arith, one_yes (either (dec_lt 0 mark) ((K m).dec y)) p)
 
--- the flag of place i, from the polynomial's values at all locators
-pub flag_at : (m n : ℕ) (marks v : List ℕ) (d : ℕ) (locators ys : List ℕ) (i flag : ℕ) → i < n → Locators m n locators
-    → Filled 255 (λ k. ev (K m) d (λ l. at v l) (at locators k)) n ys → flag ≡ flag_of m (at marks i) (at ys i) → flag ≡ flag_of m (at marks i) (value_at m n v d i)
-flag_at m n marks v d locators ys i flag h t p e = rw (← t.entry i h, ← p.first i h) e
-
 -- a list that is filled with the flags of all n places
 pub flags_all : (m n : ℕ) (marks v : List ℕ) (d s : ℕ) (flags : List ℕ)
     → n ≤ s → Filled 255 (λ i. flag_of m (at marks i) (value_at m n v d i)) s flags → Candidates m n marks v d flags
@@ -104,14 +99,20 @@ locator_next m n i x a h e = let s : n - (i - 1) ≡ suc (n - i) = omega arith i
 
 -- ---- the loops that take a polynomial's value, from the highest coefficient down
 
--- what point i holds after one turn, by a product whose m is a number k of the same width
+-- what point i holds after one turn
 unfoldable pub raised_at : (m symbol : ℕ) (values points : List ℕ) → ℕ → ℕ
 raised_at m symbol values points = lane_after m symbol values points
 
-pub raised_more : (m k symbol : ℕ) (values points : List ℕ) (i : ℕ) (next : List ℕ) (p : ℕ) → wide m ≡ wide k → i < 255 → p ≡ prod k (at values i) (at points i)
+pub raised_more : (m symbol : ℕ) (values points : List ℕ) (i : ℕ) (next : List ℕ) (p : ℕ) → i < 255 → p ≡ prod m (at values i) (at points i)
     → Filled 255 (raised_at m symbol values points) i next → Filled 255 (raised_at m symbol values points) (i + 1) (set next i (bit_xor p symbol))
 unfolding raised_at
-raised_more m k symbol values points i next p w l e = filled_more 255 _ i next _ l (rw (e, w))
+raised_more m symbol values points i next p l e = filled_more 255 _ i next _ l (rw e)
+
+-- and it depends on m by its width alone
+pub raised_wide : (m k symbol : ℕ) (values points : List ℕ) (n : ℕ) (next : List ℕ) → wide m ≡ wide k
+    → Filled 255 (raised_at k symbol values points) n next → Filled 255 (raised_at m symbol values points) n next
+unfolding raised_at
+raised_wide m k symbol values points n next w p = record { size = p.size; first = λ i l. p.first i l ∙ rw w }
 
 module _ (m d : ℕ) (v : List ℕ) where
   -- the value at x of the coefficients from l on, with the l-th power of x taken out

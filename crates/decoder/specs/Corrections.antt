@@ -124,22 +124,21 @@ error_at {m} {n} {b} {p} {e} {flags} x w d y i weighs ex ed ey ei ee =
 pub record Taking (m : ℕ) (rest : List ℕ) (y x j term : ℕ) (left : List ℕ) : Type 0 where
   pub done : Filled 16 (λ i. bit_xor (at rest i) (course m y x i)) j left
   pub here : term ≡ course m y x j
+  pub todo : (i : ℕ) → j ≤ i → at left i ≡ at rest i
 
 module _ {m : ℕ} {rest : List ℕ} {y x : ℕ} where
   pub taking_start : length rest ≡ 16 → Taking m rest y x 0 y rest
   unfolding course
-  taking_start e = record { done = filled_none 16 _ rest e; here = refl }
+  taking_start e = record { done = filled_none 16 _ rest e; here = refl; todo = λ i h. refl }
 
   pub taking_turn : {j term next : ℕ} {left : List ℕ} → j < 16 → next ≡ prod m term x → Taking m rest y x j term left
-      → Taking m rest y x (j + 1) next (set left j (bit_xor (at rest j) term))
+      → Taking m rest y x (j + 1) next (set left j (bit_xor (at left j) term))
   unfolding course
-  taking_turn {j} {term} l e o = record {
-    done = filled_more 16 _ j _ _ l (rw o.here) o.done;
+  taking_turn {j} {term} {left = left} l e o = record {
+    done = filled_more 16 _ j _ _ l (rw (o.here, o.todo j (omega arith))) o.done;
     here = rw (add-one, e, mul_comm (K m) term x, o.here);
+    todo = λ i h. get_or-set_other left j i _ 0 (omega arith) ∙ o.todo i (omega arith);
   }
-
-  pub taking_end : {j term : ℕ} {left : List ℕ} → 16 ≤ j → Taking m rest y x j term left → TakenOut m rest y x left
-  taking_end h o i l = o.done.first i (omega arith)
 
 -- the power sums of a symbol e that is the coefficient k
 course_pw : (m n b k e x y : ℕ) → x ≡ locator m k → y ≡ prod m e (weight_of m b k) → (j : ℕ) → course m y x j ≡ prod m e (pw (K m) (spots m n b) j k)
@@ -179,9 +178,6 @@ module _ (n : ℕ) (word : List ℕ) (i e : ℕ) (size : length word ≡ n) (l :
       (λ k a ne. rw (added_size, size) (added_other (n - suc k) (omega arith))) h
 
 module _ {m n b : ℕ} {flags sums before : List ℕ} where
-  pub correcting_start : length before ≡ n → Correcting m n b flags sums before 0 before sums
-  correcting_start e = record { size = e; todo = λ k h. refl; kept = λ k h. absurd (omega arith); fixed = λ k h. absurd (omega arith); rest = λ r h z. z }
-
   module _ {i : ℕ} {after left : List ℕ} (l : i < n) (o : Correcting m n b flags sums before i after left) where
     pub correcting_pass : ¬ (0 < at flags i) → Correcting m n b flags sums before (i + 1) after left
     correcting_pass f = record {
@@ -205,6 +201,3 @@ module _ {m n b : ℕ} {flags sums before : List ℕ} where
       rest = λ r few z. added_sums n after i e o.size l m b r (λ j. at left j) (λ j. at next j)
           (λ j h. taken j (omega arith) ∙ rw (course_pw m n b (n - suc i) e x y ex (rw (ew m (n - suc i) ex) at ey) j)) (o.rest r few z);
     }
-
-  pub correcting_end : {i : ℕ} {after left : List ℕ} → n ≤ i → Correcting m n b flags sums before i after left → Corrected m n b flags sums before after left
-  correcting_end h o = record { size = o.size; kept = λ k l. o.kept k (omega arith); fixed = λ k l. o.fixed k (omega arith); rest = o.rest }

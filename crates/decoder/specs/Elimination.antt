@@ -1,12 +1,14 @@
 -- The elimination without division, in place: the rows of v at 0, 9, 18, .. are vectors, and flags say which are alive. Each window costs at most one
 -- vector its life, so of t + 1 vectors one is left after t windows.
 -- Assumes nothing.
-use Rattle.std.specs.Prelude.{◌≡◌, refl, ◌≢◌, List, ℕ, suc, ◌+◌, ◌*◌, ◌%◌, ◌^◌, ◌≤◌, ◌<◌, T, ltb, length, set}
+use Rattle.std.specs.Prelude.{◌≡◌, refl, ◌≢◌, List, ℕ, suc, ◌+◌, ◌*◌, ◌%◌, ◌^◌, ◌≤◌, ◌<◌, T, length, get_or, set, replicate, Bool, true, false}
+use Rattle.std.proofs.lemmas.List.{get_or-replicate}
 use Rattle.std.proofs.Math.Path.{sym}
-use Rattle.std.proofs.Common.{◌∙◌, not-suc-le-zero, mod-eq_of_lt, add-one, arith, ltb→lt, length-set, get_or-set_same, get_or-set_other}
+use Rattle.std.proofs.Math.Bool.{Bool-discrete}
+use Rattle.std.proofs.Common.{◌∙◌, not-suc-le-zero, mod-eq_of_lt, add-one, arith, length-set, get_or-set_same, get_or-set_other}
 use Rattle.std.proofs.Math.Decide.{ℕ_discrete, dec_lt}
-use Rattle.algebra.specs.Sets.{count, count_all, count_pos, count_drop}
-use Rattle.algebra.specs.Tests.{at, each, each_at, below, below_at}
+use Rattle.algebra.specs.Sets.{count, count_all, count_drop}
+use Rattle.algebra.specs.Tests.{at, below, below_at}
 use Rattle.algebra.specs.Lists.{Filled}
 use Rattle.algebra.specs.Kernel.{Fine, Fine-unit, Fine-keep, Fine-comb, Fine-ext, Fine-same, comb, dot_ext}
 use Rattle.field.specs.Elements.{wide, one_below}
@@ -17,9 +19,16 @@ use Rattle.decoder.specs.Rows.{row, row_dot, Combined}
 abbrev pub Vec : (m d : ℕ) (sums : List ℕ) (j : ℕ) (v : List ℕ) (s : ℕ) → Type 0
 Vec m d sums j v s = Fine (K m) d (at sums) j (row v (s * 9)) s
 
--- whether the vector s is alive
-abbrev pub living : (alive : List ℕ) (s : ℕ) → Dec (0 < at alive s)
-living alive s = dec_lt 0 (at alive s)
+-- the vector s is alive
+abbrev pub Alive : (alive : List Bool) (s : ℕ) → Type 0
+Alive alive s = get_or alive s false ≡ true
+
+pub dead : {b : Bool} → b ≡ false → b ≢ true
+dead e a = cc
+
+-- whether it is
+abbrev pub living : (alive : List Bool) (s : ℕ) → Dec (Alive alive s)
+living alive s = Bool-discrete (get_or alive s false) true
 
 -- a vector of t + 1 coefficients that is not zero, and orthogonal to the first t windows of sums
 pub record KernelVector (m t : ℕ) (sums r : List ℕ) : Type 0 where
@@ -27,10 +36,10 @@ pub record KernelVector (m t : ℕ) (sums r : List ℕ) : Type 0 where
   pub fine : Fine (K m) (suc t) (at sums) t (at r) degree
 
 -- after j windows: each vector alive is orthogonal to them, and at most j have died
-pub record Eliminated (m d : ℕ) (sums : List ℕ) (j : ℕ) (v alive : List ℕ) : Type 0 where
+pub record Eliminated (m d : ℕ) (sums : List ℕ) (j : ℕ) (v : List ℕ) (alive : List Bool) : Type 0 where
   pub size : length v ≡ 88
   pub flags : length alive ≡ 9
-  pub fine : (s : ℕ) → s < d → 0 < at alive s → Vec m d sums j v s
+  pub fine : (s : ℕ) → s < d → Alive alive s → Vec m d sums j v s
   pub many : d ≤ j + count (living alive) d
 
 -- ---- the start: unit vectors
@@ -44,65 +53,32 @@ pub record Units (s : ℕ) (v : List ℕ) : Type 0 where
 pub units_none : (v : List ℕ) → length v ≡ 88 → T (below 1 v) → Units 0 v
 units_none v e z = record { size = e; ones = λ i h. absurd (not-suc-le-zero h); zeros = λ i l a b. omega (arith, below_at 1 v z (i * 9 + l) (omega arith)) }
 
-pub units_more : {s : ℕ} {v : List ℕ} → Units s v → s < 9 → Units (s + 1) (set v (s * 10) 1)
-units_more {s} {v} u h = record {
-  size = length-set v (s * 10) 1 ∙ u.size;
-  ones = λ i g. elim (ℕ_discrete i s) [
-    | yes e ↦ rw (e, get_or-set_same v (s * 10) 1 0 (omega (arith, u.size)))
-    | no ne ↦ get_or-set_other v (s * 10) (i * 10) 1 0 (omega arith) ∙ u.ones i (omega arith)
-  ];
-  zeros = λ i l a b. get_or-set_other v (s * 10) (i * 9 + l) 1 0 (omega arith) ∙ u.zeros i l a b;
-}
-
-pub eliminated_none : (m d : ℕ) (sums v alive : List ℕ) → d ≤ 9 → Units 9 v → length alive ≡ 9 → T (each 9 λ i. ltb 0 (at alive i)) → Eliminated m d sums 0 v alive
-eliminated_none m d sums v alive h u f a = record {
+pub eliminated_none : (m d : ℕ) (sums v : List ℕ) (alive : List Bool) → d ≤ 9 → Units 9 v → alive ≡ replicate 9 true → Eliminated m d sums 0 v alive
+eliminated_none m d sums v alive h u f = record {
   size = u.size;
-  flags = f;
+  flags = rw f refl;
   fine = λ s g b.
       let e : s * 9 + s ≡ s * 10 = omega arith in
       Fine-unit (K m) d (at sums) (row v (s * 9)) s g (rw (e, u.ones s (omega arith), mod-eq_of_lt (one_below (wide m) (known m))) (omega arith)) λ l c k. rw (u.zeros s l c (omega arith)) (K m).Z-zero;
-  many = omega (arith, count_all (living alive) d λ s g. ltb→lt 0 (at alive s) (each_at 9 _ a s (omega arith)));
+  many = omega (arith, count_all (living alive) d λ s g. rw (f, get_or-replicate 9 s true false (omega arith)) refl);
 }
 
 -- ---- one window: its pivot
 
 -- A vector misses a window where their product does not count as zero. No vector before s that is alive misses the window at j.
-pub record Passed (m d : ℕ) (sums : List ℕ) (j : ℕ) (v alive : List ℕ) (s : ℕ) : Type 0 where
+pub record Passed (m d : ℕ) (sums : List ℕ) (j : ℕ) (v : List ℕ) (alive : List Bool) (s : ℕ) : Type 0 where
   pub within : s ≤ d
-  pub before : (i : ℕ) → i < s → 0 < at alive i → row_dot m d v (i * 9) sums j % 2 ^ wide m ≡ 0
+  pub before : (i : ℕ) → i < s → Alive alive i → row_dot m d v (i * 9) sums j % 2 ^ wide m ≡ 0
 
 -- s is the first vector alive that misses it, or d where none does
-pub record Pivot (m d : ℕ) (sums : List ℕ) (j : ℕ) (v alive : List ℕ) (s : ℕ) : Type 0 where
+pub record Pivot (m d : ℕ) (sums : List ℕ) (j : ℕ) (v : List ℕ) (alive : List Bool) (s : ℕ) : Type 0 where
   pub passed : Passed m d sums j v alive s
-  pub lives : s < d → 0 < at alive s
+  pub lives : s < d → Alive alive s
   pub misses : s < d → row_dot m d v (s * 9) sums j % 2 ^ wide m ≢ 0
 
-module _ {m d : ℕ} {sums : List ℕ} {j : ℕ} {v alive : List ℕ} where
-  pub passed_none : Passed m d sums j v alive 0
-  passed_none = record { within = omega arith; before = λ i h. absurd (not-suc-le-zero h) }
-
-  passed_more : {s : ℕ} → Passed m d sums j v alive s → s < d → (0 < at alive s → row_dot m d v (s * 9) sums j % 2 ^ wide m ≡ 0) → Passed m d sums j v alive (s + 1)
-  passed_more {s} p h f = record {
-    within = omega arith;
-    before = λ i g a. elim (ℕ_discrete i s) [ yes e ↦ rw e (f (rw e at a)) | no ne ↦ p.before i (omega arith) a ];
-  }
-
-  pub passed_dead : {s : ℕ} → Passed m d sums j v alive s → s < d → at alive s ≡ 0 → Passed m d sums j v alive (s + 1)
-  passed_dead p h e = passed_more p h λ a. absurd (omega arith)
-
-  -- y is the product of the vector s and the window, and z what counts of it
-  module _ {s y z : ℕ} (p : Passed m d sums j v alive s) (h : s < d) (e : y ≡ row_dot m d v (s * 9) sums j) (f : z ≡ y % 2 ^ wide m) where
-    pub passed_zero : z ≡ 0 → Passed m d sums j v alive (s + 1)
-    passed_zero g = passed_more p h λ a. rw (← e, ← f) g
-
-    pub pivot_found : 0 < at alive s → z ≢ 0 → Pivot m d sums j v alive s
-    pivot_found a g = record { passed = p; lives = λ l. a; misses = λ l n. g (f ∙ rw (← e) at n) }
-
-  pub pivot_none : {s : ℕ} → Passed m d sums j v alive s → d ≤ s → Pivot m d sums j v alive s
-  pivot_none p h = record { passed = p; lives = λ l. absurd (omega arith); misses = λ l. absurd (omega arith) }
-
+module _ {m d : ℕ} {sums : List ℕ} {j : ℕ} {v : List ℕ} {alive : List Bool} where
   -- those that were passed stay as they are
-  kept : {s : ℕ} → Eliminated m d sums j v alive → Passed m d sums j v alive s → (i : ℕ) → i < s → 0 < at alive i → Vec m d sums (suc j) v i
+  kept : {s : ℕ} → Eliminated m d sums j v alive → Passed m d sums j v alive s → (i : ℕ) → i < s → Alive alive i → Vec m d sums (suc j) v i
   unfolding row_dot
   kept ε p i h a = Fine-keep (K m) d (at sums) j (row v (i * 9)) i (ε.fine i (omega (arith, p.within)) a) (p.before i h a)
 
@@ -113,43 +89,43 @@ module _ {m d : ℕ} {sums : List ℕ} {j : ℕ} {v alive : List ℕ} where
 -- ---- one window: the vectors behind its pivot
 
 -- half way: the vectors before s are orthogonal to the window at j too; x is the product of the pivot p and the window
-pub record Clearing (m d : ℕ) (sums : List ℕ) (j p x s : ℕ) (v alive : List ℕ) : Type 0 where
+pub record Clearing (m d : ℕ) (sums : List ℕ) (j p x s : ℕ) (v : List ℕ) (alive : List Bool) : Type 0 where
   pub size : length v ≡ 88
   pub flags : length alive ≡ 9
-  pub past : (i : ℕ) → i < s → 0 < at alive i → Vec m d sums (suc j) v i
-  pub next : (i : ℕ) → s ≤ i → i < d → 0 < at alive i → Vec m d sums j v i
+  pub past : (i : ℕ) → i < s → Alive alive i → Vec m d sums (suc j) v i
+  pub next : (i : ℕ) → s ≤ i → i < d → Alive alive i → Vec m d sums j v i
   pub behind : p < s
   pub pivot : Vec m d sums j v p
   pub number : x ≡ row_dot m d v (p * 9) sums j
   pub misses : x % 2 ^ wide m ≢ 0
   pub many : d ≤ suc j + count (living alive) d
 
-module _ {m d : ℕ} {sums : List ℕ} {j : ℕ} {v alive : List ℕ} where
+module _ {m d : ℕ} {sums : List ℕ} {j : ℕ} {v : List ℕ} {alive : List Bool} where
   -- the pivot dies
   pub clearing_none : {p : ℕ} → Eliminated m d sums j v alive → Pivot m d sums j v alive p → p < d → d ≤ 9
-      → Clearing m d sums j p (row_dot m d v (p * 9) sums j) (p + 1) v (set alive p 0)
+      → Clearing m d sums j p (row_dot m d v (p * 9) sums j) (p + 1) v (set alive p false)
   clearing_none {p} ε π h l = record {
     size = ε.size;
-    flags = length-set alive p 0 ∙ ε.flags;
+    flags = length-set alive p false ∙ ε.flags;
     past = λ i g a. elim (ℕ_discrete i p) [
-      | yes e ↦ absurd (omega (arith, rw (e, get_or-set_same alive p 0 0 (omega (arith, ε.flags))) at a))
-      | no ne ↦ kept ε π.passed i (omega arith) (rw (get_or-set_other alive p i 0 0 ne) at a)
+      | yes e ↦ absurd (dead (get_or-set_same alive p false false (omega (arith, ε.flags))) (rw e at a))
+      | no ne ↦ kept ε π.passed i (omega arith) (rw (get_or-set_other alive p i false false ne) at a)
     ];
-    next = λ i g k a. ε.fine i k (rw (get_or-set_other alive p i 0 0 (omega arith)) at a);
+    next = λ i g k a. ε.fine i k (rw (get_or-set_other alive p i false false (omega arith)) at a);
     behind = omega arith;
     pivot = ε.fine p h (π.lives h);
     number = refl;
     misses = π.misses h;
-    many = omega (arith, ε.many, count_drop (living alive) (living (set alive p 0)) d p λ k g ne a. rw (get_or-set_other alive p k 0 0 ne) a);
+    many = omega (arith, ε.many, count_drop (living alive) (living (set alive p false)) d p λ k g ne a. rw (get_or-set_other alive p k false false ne) a);
   }
 
   module _ {p x s : ℕ} (τ : Clearing m d sums j p x s v alive) where
     -- a vector that is not alive
-    pub clearing_dead : at alive s ≡ 0 → Clearing m d sums j p x (s + 1) v alive
+    pub clearing_dead : ¬ Alive alive s → Clearing m d sums j p x (s + 1) v alive
     clearing_dead e = record {
       size = τ.size;
       flags = τ.flags;
-      past = λ i h a. elim (ℕ_discrete i s) [ yes f ↦ absurd (omega (arith, rw f at a)) | no ne ↦ τ.past i (omega arith) a ];
+      past = λ i h a. elim (ℕ_discrete i s) [ yes f ↦ absurd (e (rw f at a)) | no ne ↦ τ.past i (omega arith) a ];
       next = λ i h. τ.next i (omega arith);
       behind = omega (arith, τ.behind);
       pivot = τ.pivot;
@@ -158,11 +134,8 @@ module _ {m d : ℕ} {sums : List ℕ} {j : ℕ} {v alive : List ℕ} where
       many = τ.many;
     }
 
-    pub eliminated_more : d ≤ s → Eliminated m d sums (j + 1) v alive
-    eliminated_more h = rw add-one record { size = τ.size; flags = τ.flags; fine = λ i g. τ.past i (omega arith); many = τ.many }
-
     -- one that is: the pivot goes into it
-    module _ {y : ℕ} {w : List ℕ} (h : s < d) (few : d ≤ 9) (a : 0 < at alive s) (e : y ≡ row_dot m d v (s * 9) sums j) (κ : Combined m (s * 9) (p * 9) d x y v w) where
+    module _ {y : ℕ} {w : List ℕ} (h : s < d) (few : d ≤ 9) (a : Alive alive s) (e : y ≡ row_dot m d v (s * 9) sums j) (κ : Combined m (s * 9) (p * 9) d x y v w) where
       same : (i : ℕ) → i ≢ s → (l : ℕ) → l < d → row w (i * 9) l ≡ row v (i * 9) l
       same i ne l g = elim (dec_lt i s) [ yes b ↦ κ.low (i * 9 + l) (omega arith) | no b ↦ κ.high (i * 9 + l) (omega arith) ]
 
@@ -192,14 +165,10 @@ module _ {m d : ℕ} {sums : List ℕ} {j : ℕ} {v alive : List ℕ} where
 
 -- ---- the end: a vector that is still alive
 
--- a vector alive is behind those that are dead
-pub living_more : (alive : List ℕ) (d s : ℕ) → 0 < count (living alive) d → ((i : ℕ) → i < s → at alive i ≡ 0) → s < d
-living_more alive d s h f = let (k, l, a) = count_pos (living alive) d h in elim (dec_lt k s) [ yes g ↦ absurd (omega (arith, f k g)) | no g ↦ omega arith ]
-
 -- the sums with room behind them are the sums, as far as a window reaches
-pub kernel_vector : {m t j : ℕ} {sums long v alive r : List ℕ} (s : ℕ) → t ≤ 8 → j ≡ t → Filled 24 (at sums) 16 long → Eliminated m (t + 1) long j v alive → s < t + 1 → 0 < at alive s
+pub kernel_vector : {m t j : ℕ} {sums long v r : List ℕ} {alive : List Bool} (s : ℕ) → t ≤ 8 → j ≡ t → Filled 24 (at sums) 16 long → Eliminated m (t + 1) long j v alive → s < t + 1 → Alive alive s
     → Filled 16 (row v (s * 9)) 16 r → KernelVector m t sums r
-kernel_vector {m} {t} {j} {sums} {long} {v} {alive} {r} s h e p ε l a f = record {
+kernel_vector {m} {t} {j} {sums} {long} {v} {r} {alive} s h e p ε l a f = record {
   degree = s;
   fine = Fine-same (K m) (suc t) (at long) (at sums) t (at r) s (λ i g. p.first i (omega arith))
       (Fine-ext (K m) (suc t) (at long) t (row v (s * 9)) (at r) s (λ i g. f.first i (omega arith)) (rw (add-one, e) at (ε.fine s l a)));

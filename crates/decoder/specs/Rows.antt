@@ -1,7 +1,7 @@
 -- Rows of an array as vectors of the theory.
 -- Assumes nothing.
-use Rattle.std.specs.Prelude.{◌≡◌, refl, List, ℕ, suc, ◌+◌, ◌-◌, ◌≤◌, ◌<◌, length, set, replicate}
-use Rattle.std.proofs.Common.{ap, ap₂, ◌∙◌, not-suc-le-zero, length-set, get_or-set_same, get_or-set_other}
+use Rattle.std.specs.Prelude.{◌≡◌, List, ℕ, suc, ◌+◌, ◌-◌, ◌≤◌, ◌<◌, length, set, replicate}
+use Rattle.std.proofs.Common.{ap, ap₂, ◌∙◌, length-set, get_or-set_same, get_or-set_other}
 use Rattle.std.proofs.Math.Decide.{ℕ_discrete}
 use native.Mathlib.Omega.{arith}
 use Rattle.std.specs.Int.Bits.{bit_xor, xor_zero_r}
@@ -33,16 +33,6 @@ pub record Dotted (m d : ℕ) (v : List ℕ) (b : ℕ) (sums : List ℕ) (j l su
   pub rest : bit_xor sum (row_dot m (d - l) v (b + l) sums (j + l)) ≡ row_dot m d v b sums j
 
 module _ {m d : ℕ} {v : List ℕ} {b : ℕ} {sums : List ℕ} {j : ℕ} where
-  pub dotted_none : Dotted m d v b sums j 0 0
-  dotted_none = record {
-    within = omega arith;
-    rest =
-        let e : d - 0 ≡ d = omega arith in
-        let f : b + 0 ≡ b = omega arith in
-        let g : j + 0 ≡ j = omega arith in
-        rw (e, f, g);
-  }
-
   pub dotted_more : {l sum : ℕ} {r w products : List ℕ} → Dotted m d v b sums j l sum → l < d → d ≤ 16 → Filled 16 (row v b) 16 r → Filled 16 (row sums j) 16 w
       → Products m r w products → Dotted m d v b sums j (l + 1) (bit_xor sum (at products l))
   dotted_more {l} {sum} {r} {w} {products} p h u s t q = record {
@@ -71,9 +61,6 @@ pub record Combined (m b c d x y : ℕ) (s t : List ℕ) : Type 0 where
   pub high : (i : ℕ) → b + d ≤ i → at t i ≡ at s i
 
 module _ {m b c x y : ℕ} {s : List ℕ} where
-  pub combined_none : Combined m b c 0 x y s s
-  combined_none = record { size = refl; new = λ l h. absurd (not-suc-le-zero h); low = λ i h. refl; high = λ i h. refl }
-
   -- a turn of the loop that makes it, from the products of the two rows as they were
   pub combined_more : {l : ℕ} {t r q own other : List ℕ} → Combined m b c l x y s t → l < 16 → b + l < length s → Filled 16 (row s b) 16 r → Filled 16 (row s c) 16 q
       → Products m (replicate 16 x) r own → Products m (replicate 16 y) q other → Combined m b c (l + 1) x y s (set t (b + l) (bit_xor (at own l) (at other l)))

@@ -1,10 +1,9 @@
 // The values at the flagged places of a word, and the word and its power sums without them.
 ghost use Rattle.std.specs.Prelude.{◌≡◌, ◌<◌, ◌≤◌, length};
-ghost use Rattle.decoder.specs.Places.{Locators};
-ghost use Rattle.decoder.specs.Listing.{Inside};
 ghost use Rattle.decoder.specs.Corrections.{Weighs, ErrorListed, TakenOut, Corrected};
 
-use crate::peel::{distance, list, peel_listed};
+use crate::locate::Places;
+use crate::peel::Listing;
 use field::shifts::{inverse_at, times};
 
 // The weight of a place of locator x in the first power sum of a code whose roots begin at a^b: x^b.
@@ -20,68 +19,44 @@ fn weight(b: usize, x: u8) -> u8
 
 // The error at place p, where all errors are at listed places: what is left of the power sums when the others are peeled, by the
 // distance of p from them.
-pub fn error_value(
-    m: usize,
-    n: usize,
-    b: usize,
-    locators: &[u8; 255],
-    places: &[u8; 255],
-    count: usize,
-    sums: [u8; 16],
-    p: usize,
-) -> u8
-    requires n_bound { (n ≤ 255) × (count ≤ n) × (p < n) × (b ≤ 1) × Inside n count places.now }
-    requires locators { Locators m n locators.now }
-    ensures { ErrorListed m n b places.now count sums p result }
+pub fn error_value(listing: &Listing, b: usize, sums: [u8; 16], p: usize) -> u8
+    requires { (p < listing.now.places.now.n) × (b ≤ 1) }
+    ensures { ErrorListed listing.now.places.now.m listing.now.places.now.n b listing.now.flagged listing.now.count sums p result }
 {
-    let rest = peel_listed(m, n, locators, places, count, p, sums);
-    let far = distance(m, n, locators, places, count, p, weight(b, locators[p]));
-    times(m, rest[0], inverse_at(m, far))
+    let places = listing.places;
+    let rest = listing.peel(p, sums);
+    let far = listing.distance(p, weight(b, places.locators[p]));
+    times(places.m, rest[0], inverse_at(places.m, far))
 }
 
-// The power sums without those of one symbol: y, y x, y x^2, ..
-fn take_out(m: usize, rest: [u8; 16], y: u8, x: u8) -> [u8; 16]
-    ensures { TakenOut m rest y x result }
+// Takes those of one symbol out of the power sums: y, y x, y x^2, ..
+fn take_out(m: usize, rest: &mut [u8; 16], y: u8, x: u8)
+    requires { length rest.old ≡ 16 }
+    ensures size { length rest.new ≡ 16 }
+    ensures taken { TakenOut m rest.old y x rest.new }
 {
-    let mut left = rest;
     let mut term = y;
-    let mut j = 0;
-    while j < 16 {
-        left[j] = rest[j] ^ term;
+    for sum in rest.iter_mut() {
+        *sum ^= term;
         term = times(m, term, x);
-        j += 1;
     }
-    left
 }
 
 // Takes the errors out of the flagged places of a word with these power sums, and gives the power sums of what it leaves: they tell
 // whether that is a codeword, with no second pass over the word.
-pub fn correct(
-    m: usize,
-    n: usize,
-    b: usize,
-    locators: &[u8; 255],
-    flags: &[u8],
-    sums: [u8; 16],
-    word: &mut [u8],
-) -> [u8; 16]
-    requires n_bound { (n ≤ 255) × (n ≤ length flags.now) × (length word.old ≡ n) × (b ≤ 1) }
-    requires locators { Locators m n locators.now }
-    ensures { Corrected m n b flags.now sums word.old word.new result }
+pub fn correct(places: &Places, b: usize, flags: &[u8], sums: [u8; 16], word: &mut [u8]) -> [u8; 16]
+    requires { (places.now.n ≤ length flags.now) × (length word.old ≡ places.now.n) × (b ≤ 1) }
+    ensures { Corrected places.now.m places.now.n b flags.now sums word.old word.new result }
 {
-    let mut places: [u8; 255] = [0; 255];
-    let count = list(n, flags, &mut places);
+    let listing = Listing::of(places, flags);
     let mut rest = sums;
-    let mut i = 0;
-    while i < n {
+    for i in 0..places.n {
         if flags[i] != 0 {
-            let x = locators[i];
-            let e = error_value(m, n, b, locators, &places, count, sums, i);
-            word[i] = word[i] ^ e;
-            let left = take_out(m, rest, times(m, e, weight(b, x)), x);
-            rest = left;
+            let x = places.locators[i];
+            let e = error_value(&listing, b, sums, i);
+            word[i] ^= e;
+            take_out(places.m, &mut rest, times(places.m, e, weight(b, x)), x);
         }
-        i += 1;
     }
     rest
 }

@@ -9,38 +9,72 @@ ghost use Rattle.decoder.specs.Candidates.{flag_of, raised_at, Candidates};
 
 use field::shifts::{double, low, times};
 
-// The locator of every place of a word of n: the last place has 1, and each place before it the double of the one behind.
-pub fn locators(m: usize, n: usize) -> [u8; 255]
-    requires { n ≤ 255 }
-    ensures { Locators m n result }
-{
-    let mut table: [u8; 255] = [0; 255];
-    let mut x: u8 = 1;
-    let mut i = n;
-    while 0 < i {
-        i -= 1;
-        table[i] = x;
-        x = double(m, x);
-    }
-    table
+// The places of a word of n symbols in the field that m names, and the locator of each.
+#[derive(Drop)]
+pub struct Places {
+    pub m: usize,
+    pub n: usize,
+    pub locators: [u8; 255],
+    pub ghost short: { n ≤ 255 },
+    pub ghost located: { Locators m n locators },
 }
 
-// One turn of Horner's rule at each of the first n points. The product stands twice for the reason given at `field::lanes::products`.
-fn raise(m: usize, n: usize, values: [u8; 255], points: &[u8; 255], symbol: u8) -> [u8; 255]
-    requires { n ≤ 255 }
-    ensures { Filled 255 (raised_at m symbol values points.now) n result }
-{
-    let mut next: [u8; 255] = [0; 255];
-    let mut i = 0;
-    while i < n {
-        if m == 3 {
-            next[i] = times(3, values[i], points[i]) ^ symbol;
-        } else {
-            next[i] = times(8, values[i], points[i]) ^ symbol;
+impl Places {
+    // The last place has locator 1, and each place before it the double of the one behind.
+    pub fn of(m: usize, n: usize) -> Places
+        requires { n ≤ 255 }
+        ensures { (result.m ≡ m) × (result.n ≡ n) }
+    {
+        let mut locators: [u8; 255] = [0; 255];
+        let mut x: u8 = 1;
+        for i in (0..n).rev() {
+            locators[i] = x;
+            x = double(m, x);
         }
-        i += 1;
+        Places { m, n, locators }
+    }
+
+    // The places where an error can stand: a flag for each of the n places, and 0 from n on.
+    pub fn candidates(&self, marks: &[u8], v: &[u8; 16], d: usize) -> [u8; 255]
+        requires { (length marks.now ≡ self.now.n) × (d ≤ 9) }
+        ensures { Candidates self.now.m self.now.n marks.now v.now d result }
+    {
+        let ys = values(self.m, self.n, v, d, &self.locators);
+        let mut flags: [u8; 255] = [0; 255];
+        for i in 0..self.n {
+            flags[i] = candidate(self.m, marks[i], ys[i]);
+        }
+        flags
+    }
+}
+
+// One turn of Horner's rule at each of the first n points, in the field of 2^M elements. M is known before the run, so the loop is vector code.
+fn raise_by<const M: usize>(
+    n: usize,
+    values: &[u8; 255],
+    points: &[u8; 255],
+    symbol: u8,
+) -> [u8; 255]
+    requires { n ≤ 255 }
+    ensures { Filled 255 (raised_at M symbol values.now points.now) n result }
+{
+    let mut next = [0; 255];
+    for i in 0..n {
+        next[i] = times(M, values[i], points[i]) ^ symbol;
     }
     next
+}
+
+// The same in the field that m names.
+fn raise(m: usize, n: usize, values: &[u8; 255], points: &[u8; 255], symbol: u8) -> [u8; 255]
+    requires { n ≤ 255 }
+    ensures { Filled 255 (raised_at m symbol values.now points.now) n result }
+{
+    if m == 3 {
+        raise_by::<3>(n, values, points, symbol)
+    } else {
+        raise_by::<8>(n, values, points, symbol)
+    }
 }
 
 // The values of the polynomial at the first n points: by turns over all points, since that is vector code.
@@ -49,10 +83,8 @@ fn values(m: usize, n: usize, v: &[u8; 16], d: usize, points: &[u8; 255]) -> [u8
     ensures { Filled 255 (λ i. ev (K m) d (λ l. at v.now l) (at points.now i)) n result }
 {
     let mut sums: [u8; 255] = [0; 255];
-    let mut l = d;
-    while 0 < l {
-        l -= 1;
-        let next = raise(m, n, sums, points, v[l]);
+    for l in (0..d).rev() {
+        let next = raise(m, n, &sums, points, v[l]);
         sums = next;
     }
     sums
@@ -62,33 +94,8 @@ fn values(m: usize, n: usize, v: &[u8; 16], d: usize, points: &[u8; 255]) -> [u8
 fn candidate(m: usize, mark: u8, y: u8) -> u8
     ensures { result ≡ flag_of m mark y }
 {
-    if mark != 0 {
-        return 1;
-    }
-    if low(m, y) == 0 {
+    if mark != 0 || low(m, y) == 0 {
         return 1;
     }
     0
-}
-
-// The places where an error can stand: a flag for each of the n places, and 0 from n on.
-pub fn candidates(
-    m: usize,
-    n: usize,
-    marks: &[u8],
-    v: &[u8; 16],
-    d: usize,
-    locators: &[u8; 255],
-) -> [u8; 255]
-    requires { (n ≤ 255) × (length marks.now ≡ n) × (d ≤ 9) × Locators m n locators.now }
-    ensures { Candidates m n marks.now v.now d result }
-{
-    let ys = values(m, n, v, d, locators);
-    let mut flags: [u8; 255] = [0; 255];
-    let mut i = 0;
-    while i < n {
-        flags[i] = candidate(m, marks[i], ys[i]);
-        i += 1;
-    }
-    flags
 }

@@ -1,7 +1,7 @@
 -- The product a term at a time: what the loop of `by_terms` keeps, and its turns, for either m.
 -- Assumes nothing.
 use mathlib.Core.Path.{◌≡◌, sym, ap, ap₂, ◌∙◌, subst}
-use Prim.Native.Nat.{ℕ, suc, ◌-◌, ◌*◌, ◌/◌, ◌%◌, ◌^◌, ◌≤◌, ◌<◌}
+use Prim.Native.Nat.{ℕ, suc, ◌-◌, ◌*◌, ◌/◌, ◌%◌, ◌^◌, ◌<◌}
 use native.Mathlib.Nat.{zero-mul, one-mul, div-lt_iff_lt-mul, pow-suc, mod-lt, mod-eq_of_lt}
 use native.Mathlib.Omega.{arith}
 use lib.Arith.{lt-one}
@@ -15,9 +15,6 @@ use Rattle.field.proofs.Elements.{known}
 
 bit_mul : (a b : ℕ) → a % 2 * b ≡ only (a % 2) b
 bit_mul a b = on_bit (λ (d : ℕ). d * b ≡ only d b) (zero-mul b) (one-mul b) a
-
-pub bit_mul_le : (a b : ℕ) → a % 2 * b ≤ b
-bit_mul_le a b = on_bit (λ (d : ℕ). d * b ≤ b) (omega (arith, zero-mul b)) (omega (arith, one-mul b)) a
 
 half : (a n : ℕ) → 0 < n → a < 2 ^ n → a / 2 < 2 ^ (n - 1)
 half a n h l =

@@ -55,7 +55,7 @@ impl Framing {
     }
 
     // How many slots the frame has.
-    pub fn slots(self) -> usize
+    pub(crate) fn slots(self) -> usize
         requires { Small self }
         ensures { result ≡ slot_count self }
     {
@@ -63,7 +63,7 @@ impl Framing {
     }
 
     // How many bytes a word's message has.
-    pub fn message(self) -> usize
+    pub(crate) fn message(self) -> usize
         requires { Small self }
         ensures { result ≡ message_size (word_setting self) }
     {
@@ -71,7 +71,7 @@ impl Framing {
     }
 
     // How many bytes the message area has.
-    pub fn area(self) -> usize
+    pub(crate) fn area(self) -> usize
         requires { Small self }
         ensures { result ≡ area_size self }
     {

@@ -61,7 +61,7 @@ pub fn is_good(area: &[u8]) -> bool
     ensures { result ≡ trailer_good (length area.now) area.now }
 {
     let room = area.len() - 4;
-    let back = two_at(area, room) as usize;
+    let back = usize::from(two_at(area, room));
     back <= room && all_below(&area[..room - back], 1)
 }
 
@@ -75,7 +75,7 @@ pub fn payload<'a>(area: &'a [u8], answer: Result<Received, ReceiveError>) -> &'
         return &area[0..0];
     };
     let n = area.len();
-    let back = received.back as usize;
+    let back = usize::from(received.back);
     if n < back + 4 {
         return &area[0..0];
     }

@@ -132,7 +132,7 @@ impl Line {
 
     // A step for each of the bytes, in order; gives the position after them. With `back` the rings are in the receiver's order. A line is
     // lent here and not handed over: it would be copied through memory, and a step would take 42 ns and not 21.
-    pub fn run(&self, back: bool, memory: &mut [u8], bytes: &mut [u8]) -> usize
+    pub(crate) fn run(&self, back: bool, memory: &mut [u8], bytes: &mut [u8]) -> usize
         requires { Fine self.now (length memory.old) }
         ensures { ran bytes.new memory.new result ≡ line_run back self.now memory.old bytes.old }
     {

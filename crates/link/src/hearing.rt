@@ -6,11 +6,11 @@ use frame::numbers::{number_of, received_of};
 use frame::{Framing, ReceiveError, Received, receive};
 use record::{Record, note};
 
-// What hearing a frame gives: the record after it, and the frame's answer.
-#[derive(Drop)]
-pub struct Heard {
+// What hearing gives: the record after it, and what was answered.
+#[derive(Clone, Copy)]
+pub struct Heard<A> {
     pub next: Record,
-    pub answer: Result<Received, ReceiveError>,
+    pub answer: A,
 }
 
 // Receives a frame into the lent area and map as `receive` does, and notes its number and its sequence number in the record.
@@ -21,7 +21,7 @@ pub fn hear(
     marks: &[u8],
     area: &mut [u8],
     map: &mut [u8],
-) -> Heard
+) -> Heard<Result<Received, ReceiveError>>
     ensures { Hears before f slots.now marks.now area.old map.old result.answer result.next area.new map.new }
 {
     let answer = receive(f, slots, marks, area, map);
@@ -29,7 +29,7 @@ pub fn hear(
     Heard { next, answer }
 }
 
-// The same over a lent record, which is updated where it stands.
+// The same over a lent record, which is updated where it stands. Both calls stay, since callers and README name both; so do those below.
 pub fn hear_in(
     lent: &mut Record,
     f: Framing,

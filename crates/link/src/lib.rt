@@ -25,11 +25,10 @@ pub use record::{Kind, Record, fresh, note, note_in, standing_of, unseen_of};
 pub use hearing::{Heard, hear, hear_in};
 
 // A morning's frames at once.
-pub use replaying::{ReplayError, ReplayHeard, replay, replay_in};
+pub use replaying::{ReplayError, replay, replay_in};
 
 // Two masts.
 pub use choice::{Chosen, Mast, MastsError};
 pub use masts::{
-    MastCopy, MastsHeard, hear_masts, hear_masts_in, masts_payload, receive_masts,
-    receive_masts_part,
+    MastCopy, hear_masts, hear_masts_in, masts_payload, receive_masts, receive_masts_part,
 };

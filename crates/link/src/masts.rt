@@ -6,6 +6,7 @@ ghost use Rattle.link.specs.MastCopies.{copied, left_in, Lent};
 ghost use Rattle.link.specs.Promises.{ReceivesMasts, HandsBackOne, ReceivesMastsPart, HearsMasts};
 
 use crate::choice::{Chosen, Mast, MastsError, choose};
+use crate::hearing::Heard;
 use crate::numbers::{chosen_of, masts_number};
 use frame::{Framing, payload, receive};
 use record::{Record, note};
@@ -17,13 +18,6 @@ pub struct MastCopy<'a> {
     pub marks: &'a [u8],
     pub area: &'a mut [u8],
     pub map: &'a mut [u8],
-}
-
-// What hearing two copies gives: the record after them, and what they were answered together.
-#[derive(Drop)]
-pub struct MastsHeard {
-    pub next: Record,
-    pub answer: Result<Chosen, MastsError>,
 }
 
 // Decodes each copy into its area and map as `receive` does, and answers the better one. A copy that is refused leaves the other as it is.
@@ -97,13 +91,13 @@ pub fn hear_masts(
     f: Framing,
     first: &mut MastCopy,
     second: &mut MastCopy,
-) -> MastsHeard
+) -> Heard<Result<Chosen, MastsError>>
     ensures heard { HearsMasts before f (copied first.old) (copied second.old) result.answer result.next (left_in first.new) (left_in second.new) }
     ensures lent { Lent first.old first.new × Lent second.old second.new }
 {
     let answer = receive_masts(f, first, second);
     let next = note(before, masts_number(answer), chosen_of(answer).sequence);
-    MastsHeard { next, answer }
+    Heard { next, answer }
 }
 
 // The same over a lent record, which is updated where it stands.

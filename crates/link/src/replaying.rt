@@ -6,7 +6,7 @@ ghost use Rattle.link.specs.Replay.{numbers_of, result_of, replay_number, replay
 ghost use Rattle.link.specs.Replay.Checks.{ReplayChecked};
 ghost use Rattle.link.specs.Promises.{Replays};
 
-use crate::hearing::hear;
+use crate::hearing::{Heard, hear};
 use frame::numbers::{number_of, received_of, word_number};
 use frame::{Framing, ReceiveError, Received, is_allowed};
 use record::Record;
@@ -17,13 +17,6 @@ use word::Figures;
 pub enum ReplayError {
     BadSetting,
     BadLength,
-}
-
-// What a replay gives: the record after the last frame, and how many frames were heard.
-#[derive(Drop)]
-pub struct ReplayHeard {
-    pub next: Record,
-    pub answer: Result<usize, ReplayError>,
 }
 
 // Puts e, f and bits of each word one after the other.
@@ -90,7 +83,7 @@ fn hear_all(
     areas: &mut [u8],
     maps: &mut [u8],
     results: &mut [u16],
-) -> ReplayHeard
+) -> Heard<Result<usize, ReplayError>>
     requires { ReplayChecked f slots.now marks.now areas.old maps.old results.old }
     ensures { Replays before f slots.now marks.now areas.old maps.old results.old result.answer result.next areas.new maps.new results.new }
 {
@@ -108,14 +101,14 @@ fn hear_all(
         let place = &mut results[i * 52..i * 52 + 52];
         put_result(heard.answer, place);
     }
-    ReplayHeard {
+    Heard {
         next,
         answer: Ok(frames),
     }
 }
 
-// Hears up to 64 frames that lie end to end, each with the record that the one before it left. Where the whole call is refused, nothing is
-// touched.
+// Hears up to 64 frames that lie end to end, each with the record that the one before it left, and answers how many. Where the whole call is
+// refused, nothing is touched.
 pub fn replay(
     before: Record,
     f: Framing,
@@ -124,12 +117,12 @@ pub fn replay(
     areas: &mut [u8],
     maps: &mut [u8],
     results: &mut [u16],
-) -> ReplayHeard
+) -> Heard<Result<usize, ReplayError>>
     ensures { Replays before f slots.now marks.now areas.old maps.old results.old result.answer result.next areas.new maps.new results.new }
 {
     match check_replay(f, slots, marks, areas, maps, results) {
         Ok(()) => hear_all(before, f, slots, marks, areas, maps, results),
-        Err(reason) => ReplayHeard {
+        Err(reason) => Heard {
             next: before,
             answer: Err(reason),
         },

@@ -1,11 +1,12 @@
 -- Eight, and sixteen, products by one factor: for each bit of a byte the factor's product by that power of 2 is added.
 -- Assumes nothing.
-use Rattle.std.specs.Prelude.{◌≡◌, List, [], ◌∷◌}
+use Rattle.std.specs.Prelude.{◌≡◌, List, length, set}
 use Rattle.std.proofs.Math.Path.{sym, ap}
-use Rattle.std.proofs.Common.{ap₂, ◌∙◌, div-one, add_comm, one-mul, zero-mul, mul-le-mul, arith, shr-shr}
-use Prim.Native.Nat.{ℕ, zero, suc, ◌+◌, ◌-◌, ◌*◌, ◌/◌, ◌%◌, ◌^◌, ◌<◌, ◌≤◌}
+use Rattle.std.proofs.Math.Decide.{ℕ_discrete}
+use Rattle.std.proofs.Common.{length-set, get_or-set_same, get_or-set_other, ap₂, ◌∙◌, div-one, add_comm, one-mul, zero-mul, arith, shr-shr}
+use Prim.Native.Nat.{ℕ, suc, ◌+◌, ◌-◌, ◌*◌, ◌/◌, ◌%◌, ◌^◌, ◌<◌}
 use Rattle.std.specs.Int.Bits.{bit_xor, bit_and}
-use Rattle.std.proofs.lemmas.Nat.{and_mask, and_le_r}
+use Rattle.std.proofs.lemmas.Nat.{and_mask}
 use Rattle.std.proofs.Math.Pow.{field, mod-mod-pow}
 use Rattle.algebra.specs.Tests.{at}
 use Rattle.algebra.specs.Xor.{◌⊕◌, on_bit, assoc, zero_r}
@@ -41,44 +42,35 @@ term_at k c x i l h u =
     ∙ ap (λ (z : ℕ). z % 256 % 2) (shr-shr x k (8 * i) ∙ ap (λ (z : ℕ). x / 2 ^ z) (add_comm k (8 * i)) ∙ sym (shr-shr x (8 * i) k)) ∙ bit_of k (7 - k) (x / 2 ^ (8 * i)) (omega arith))
     ∙ on_bit (λ (d : ℕ). d * c ≡ only d c) (zero-mul c) (one-mul c) (byte x i / 2 ^ k)
 
-pub term_fits : (c x : ℕ) → c < 256 → bit_and x 72340172838076673 * c < 2 ^ 64
-term_fits c x h =
-    let l : c ≤ 255 = omega arith in
-    let e : bit_and x 72340172838076673 * c ≤ 72340172838076673 * 255 = mul-le-mul (and_le_r x 72340172838076673) l in
-    omega arith
-
 -- ---- a factor's products by the powers of a
 
 pub record Factored (m x : ℕ) (l : List ℕ) : Type 0 where
   pub each : (k : ℕ) → k < 8 → at l k ≡ prod m (pow (K m) 2 k) x
 
-module _ (m x a b c d e f g h : ℕ) where
-  pub factored : x < 2 ^ wide m → a ≡ x → b ≡ prod m 2 a → c ≡ prod m 2 b → d ≡ prod m 2 c → e ≡ prod m 2 d → f ≡ prod m 2 e → g ≡ prod m 2 f → h ≡ prod m 2 g
-      → Factored m x (a ∷ b ∷ c ∷ d ∷ e ∷ f ∷ g ∷ h ∷ [])
-  unfolding pow
-  factored l ea eb ec ed ee ef eg eh =
-      let zero' : a ≡ prod m (pow (K m) 2 0) x = ea ∙ sym (mul_comm (K m) 1 x ∙ prod_one m x l) in
-      let next : (k y z : ℕ) → z ≡ prod m 2 y → y ≡ prod m (pow (K m) 2 k) x → z ≡ prod m (pow (K m) 2 (suc k)) x =
-      λ k y z p q. p ∙ ap (prod m 2) q ∙ sym (mul_assoc (K m) 2 (pow (K m) 2 k) x) in
-      let one' = next 0 a b eb zero' in
-      let two = next 1 b c ec one' in
-      let three = next 2 c d ed two in
-      let four = next 3 d e ee three in
-      let five = next 4 e f ef four in
-      let six = next 5 f g eg five in
-      record { each = pick zero' one' two three four five six (next 6 g h eh six) }
-    where
-      pick : a ≡ prod m (pow (K m) 2 0) x → b ≡ prod m (pow (K m) 2 1) x → c ≡ prod m (pow (K m) 2 2) x → d ≡ prod m (pow (K m) 2 3) x → e ≡ prod m (pow (K m) 2 4) x
-          → f ≡ prod m (pow (K m) 2 5) x → g ≡ prod m (pow (K m) 2 6) x → h ≡ prod m (pow (K m) 2 7) x → (k : ℕ) → k < 8 → at (a ∷ b ∷ c ∷ d ∷ e ∷ f ∷ g ∷ h ∷ []) k ≡ prod m (pow (K m) 2 k) x
-      pick p0 p1 p2 p3 p4 p5 p6 p7 zero l = p0
-      pick p0 p1 p2 p3 p4 p5 p6 p7 (suc zero) l = p1
-      pick p0 p1 p2 p3 p4 p5 p6 p7 (suc (suc zero)) l = p2
-      pick p0 p1 p2 p3 p4 p5 p6 p7 (suc (suc (suc zero))) l = p3
-      pick p0 p1 p2 p3 p4 p5 p6 p7 (suc (suc (suc (suc zero)))) l = p4
-      pick p0 p1 p2 p3 p4 p5 p6 p7 (suc (suc (suc (suc (suc zero))))) l = p5
-      pick p0 p1 p2 p3 p4 p5 p6 p7 (suc (suc (suc (suc (suc (suc zero)))))) l = p6
-      pick p0 p1 p2 p3 p4 p5 p6 p7 (suc (suc (suc (suc (suc (suc (suc zero))))))) l = p7
-      pick p0 p1 p2 p3 p4 p5 p6 p7 (suc (suc (suc (suc (suc (suc (suc (suc k)))))))) l = absurd (omega arith)
+-- the first n of them stand
+pub record Factoring (m x n : ℕ) (l : List ℕ) : Type 0 where
+  pub size : length l ≡ 8
+  pub done : (k : ℕ) → k < n → at l k ≡ prod m (pow (K m) 2 k) x
+
+pub factoring_one : (m x : ℕ) (l : List ℕ) → x < 2 ^ wide m → length l ≡ 8 → at l 0 ≡ x → Factoring m x 1 l
+unfolding pow
+factoring_one m x l u n e = record {
+  size = n;
+  done = λ k h. let z : k ≡ 0 = omega arith in rw z (e ∙ sym (mul_comm (K m) 1 x ∙ prod_one m x u));
+}
+
+pub factoring_more : (m x n : ℕ) (l : List ℕ) (y : ℕ) → 0 < n → n < 8 → y ≡ prod m 2 (at l (n - 1)) → Factoring m x n l → Factoring m x (n + 1) (set l n y)
+unfolding pow
+factoring_more m x n l y some h e f = record {
+  size = length-set l n y ∙ f.size;
+  done = λ k u. elim (ℕ_discrete k n) [
+    | yes z ↦
+        let up : n ≡ suc (n - 1) = omega arith in
+        rw (z, get_or-set_same l n y 0 (omega (arith, f.size)))
+        (e ∙ ap (prod m 2) (f.done (n - 1) (omega arith)) ∙ sym (mul_assoc (K m) 2 (pow (K m) 2 (n - 1)) x) ∙ ap (λ (v : ℕ). prod m (pow (K m) 2 v) x) (sym up))
+    | no z ↦ get_or-set_other l n k y 0 z ∙ f.done k (omega arith)
+  ];
+}
 
 prod_linear : (m x : ℕ) → Linear (λ y. prod m y x)
 unfolding ◌⊕◌
@@ -99,10 +91,10 @@ pub record ByFactor (l : List ℕ) (x r : ℕ) : Type 0 where
 in_a_row : (a b c d e f g h : ℕ) → ((a ⊕ b) ⊕ (c ⊕ d)) ⊕ ((e ⊕ f) ⊕ (g ⊕ h)) ≡ a ⊕ (b ⊕ (c ⊕ (d ⊕ (e ⊕ (f ⊕ (g ⊕ (h ⊕ 0)))))))
 in_a_row a b c d e f g h = simp (assoc, zero_r)
 
-eight_terms : (v a b c d e f g h : ℕ) → ((only (v % 2) a ⊕ only (v / 2 % 2) b) ⊕ (only (v / 4 % 2) c ⊕ only (v / 8 % 2) d))
-    ⊕ ((only (v / 16 % 2) e ⊕ only (v / 32 % 2) f) ⊕ (only (v / 64 % 2) g ⊕ only (v / 128 % 2) h)) ≡ comb 8 (at (a ∷ b ∷ c ∷ d ∷ e ∷ f ∷ g ∷ h ∷ [])) v
+eight_terms : (v : ℕ) (l : List ℕ) → ((only (v % 2) (at l 0) ⊕ only (v / 2 % 2) (at l 1)) ⊕ (only (v / 4 % 2) (at l 2) ⊕ only (v / 8 % 2) (at l 3)))
+    ⊕ ((only (v / 16 % 2) (at l 4) ⊕ only (v / 32 % 2) (at l 5)) ⊕ (only (v / 64 % 2) (at l 6) ⊕ only (v / 128 % 2) (at l 7))) ≡ comb 8 (at l) v
 unfolding comb
-eight_terms v a b c d e f g h =
+eight_terms v l =
     let e4 : v / 2 / 2 ≡ v / 4 = omega arith in
     let e8 : v / 4 / 2 ≡ v / 8 = omega arith in
     let e16 : v / 8 / 2 ≡ v / 16 = omega arith in
@@ -115,16 +107,18 @@ byte_sum : (a b p q i : ℕ) → byte a i ≡ p → byte b i ≡ q → byte (bit
 unfolding ◌⊕◌
 byte_sum a b p q i e f = byte_xor a b i ∙ ap₂ bit_xor e f
 
-module _ (x a b c d e f g h : ℕ) (la : a < 256) (lb : b < 256) (lc : c < 256) (ld : d < 256) (le : e < 256) (lf : f < 256) (lg : g < 256) (lh : h < 256) where
-  pub word_by_lem : ByFactor (a ∷ b ∷ c ∷ d ∷ e ∷ f ∷ g ∷ h ∷ []) x
-      (bit_xor (bit_xor (bit_xor (term 0 a x) (term 1 b x)) (bit_xor (term 2 c x) (term 3 d x))) (bit_xor (bit_xor (term 4 e x) (term 5 f x)) (bit_xor (term 6 g x) (term 7 h x))))
+module _ (x : ℕ) (l : List ℕ) (small : (k : ℕ) → at l k < 256) where
+  pub word_by_lem : ByFactor l x
+      (bit_xor (bit_xor (bit_xor (term 0 (at l 0) x) (term 1 (at l 1) x)) (bit_xor (term 2 (at l 2) x) (term 3 (at l 3) x)))
+      (bit_xor (bit_xor (term 4 (at l 4) x) (term 5 (at l 5) x)) (bit_xor (term 6 (at l 6) x) (term 7 (at l 7) x))))
   word_by_lem = record {
-    each = λ i l.
-        let first : byte (term 0 a x) i ≡ only (byte x i % 2) a = term_at 0 a x i (omega arith) la l ∙ ap (λ (z : ℕ). only (z % 2) a) (div-one (byte x i)) in
+    each = λ i u.
+        let bit : (k : ℕ) → k < 8 → byte (term k (at l k) x) i ≡ only (byte x i / 2 ^ k % 2) (at l k) = λ k h. term_at k (at l k) x i h (small k) u in
+        let first : byte (term 0 (at l 0) x) i ≡ only (byte x i % 2) (at l 0) = bit 0 (omega arith) ∙ ap (λ (z : ℕ). only (z % 2) (at l 0)) (div-one (byte x i)) in
         byte_sum _ _ _ _ i
-        (byte_sum _ _ _ _ i (byte_sum _ _ _ _ i first (term_at 1 b x i (omega arith) lb l)) (byte_sum _ _ _ _ i (term_at 2 c x i (omega arith) lc l) (term_at 3 d x i (omega arith) ld l)))
-        (byte_sum _ _ _ _ i (byte_sum _ _ _ _ i (term_at 4 e x i (omega arith) le l) (term_at 5 f x i (omega arith) lf l)) (byte_sum _ _ _ _ i (term_at 6 g x i (omega arith) lg l) (term_at 7 h x i (omega arith) lh l)))
-        ∙ eight_terms (byte x i) a b c d e f g h;
+        (byte_sum _ _ _ _ i (byte_sum _ _ _ _ i first (bit 1 (omega arith))) (byte_sum _ _ _ _ i (bit 2 (omega arith)) (bit 3 (omega arith))))
+        (byte_sum _ _ _ _ i (byte_sum _ _ _ _ i (bit 4 (omega arith)) (bit 5 (omega arith))) (byte_sum _ _ _ _ i (bit 6 (omega arith)) (bit 7 (omega arith))))
+        ∙ eight_terms (byte x i) l;
   }
 
 -- ---- of two words

@@ -26,9 +26,6 @@ module _ (a b e : ℕ) (la : a < 2 ^ 64) (le : e < 256) where
   last : a / 72057594037927936 < 256
   last = omega arith
 
-  pub down_high_fits : a / 72057594037927936 + 256 * (b % 72057594037927936) < 2 ^ 64
-  down_high_fits = let l = last in omega arith
-
   last_byte : a / 72057594037927936 ≡ byte a 7
   unfolding byte
   last_byte = omega arith

@@ -1,5 +1,5 @@
 // Symbols put into words, and taken out again.
-ghost use Rattle.std.specs.Prelude.{◌≡◌, ◌+◌, ◌*◌, ◌≤◌, ◌<◌, length};
+ghost use Rattle.std.specs.Prelude.{◌≡◌, ℕ, ◌+◌, ◌*◌, ◌≤◌, ◌<◌, length};
 ghost use Rattle.algebra.specs.Tests.{at};
 ghost use Rattle.algebra.specs.Bytes.{byte, whole, bytes};
 
@@ -9,14 +9,15 @@ use crate::pair::Pair;
 pub fn wide(x: u8) -> u64
     ensures { (result ≡ x) × (result < 256) }
 {
-    x as u64
+    u64::from(x)
 }
 
-// Four symbols from the one at i on, the first in the lowest byte.
+// Four symbols from the one at i on, the first in the lowest byte. Every symbol is a byte.
 pub fn four_at(s: &[u8], i: usize) -> u64
     requires { i + 4 ≤ length s.now }
     ensures value { result ≡ at s.now i + at s.now (i + 1) * 256 + at s.now (i + 2) * 65536 + at s.now (i + 3) * 16777216 }
     ensures upper_bound { result < 4294967296 }
+    ensures bytes { (j : ℕ) → at s.now j < 256 }
 {
     four_apart(s, i, 1)
 }
@@ -26,6 +27,7 @@ pub fn four_apart(s: &[u8], i: usize, step: usize) -> u64
     requires { i + 3 * step < length s.now }
     ensures value { result ≡ at s.now i + at s.now (i + step) * 256 + at s.now (i + 2 * step) * 65536 + at s.now (i + 3 * step) * 16777216 }
     ensures upper_bound { result < 4294967296 }
+    ensures bytes { (j : ℕ) → at s.now j < 256 }
 {
     wide(s[i])
         + wide(s[i + step]) * 256
@@ -57,10 +59,8 @@ pub fn bytes_of(p: Pair) -> [u8; 16]
     ensures { result ≡ bytes p.low p.high }
 {
     let mut out = [0u8; 16];
-    let mut i = 0;
-    while i < 16 {
+    for i in 0..16 {
         out[i] = symbol_of(p, i);
-        i += 1;
     }
     out
 }

@@ -22,7 +22,8 @@ pub fn none() -> Pair
 
 // The sums, symbol by symbol.
 pub fn sum(p: Pair, q: Pair) -> Pair
-    ensures { whole result.low result.high ≡ bit_xor (whole p.low p.high) (whole q.low q.high) }
+    ensures number { whole result.low result.high ≡ bit_xor (whole p.low p.high) (whole q.low q.high) }
+    ensures upper { result.high ≡ bit_xor p.high q.high }
 {
     Pair {
         low: p.low ^ q.low,
@@ -32,7 +33,8 @@ pub fn sum(p: Pair, q: Pair) -> Pair
 
 // Symbol k + 1 goes to place k, and 0 to the last.
 pub fn moved(p: Pair) -> Pair
-    ensures { whole result.low result.high ≡ whole p.low p.high / 256 }
+    ensures number { whole result.low result.high ≡ whole p.low p.high / 256 }
+    ensures upper { result.high ≡ p.high / 256 }
 {
     Pair {
         low: p.low / 256 + p.high % 256 * 72057594037927936,
@@ -42,7 +44,8 @@ pub fn moved(p: Pair) -> Pair
 
 // Symbol k + 4 goes to place k, and 0 to the last four.
 pub fn moved_four(p: Pair) -> Pair
-    ensures { whole result.low result.high ≡ whole p.low p.high / 4294967296 }
+    ensures number { whole result.low result.high ≡ whole p.low p.high / 4294967296 }
+    ensures upper { result.high ≡ p.high / 4294967296 }
 {
     Pair {
         low: p.low / 4294967296 + p.high % 4294967296 * 4294967296,
@@ -62,7 +65,8 @@ pub fn down(p: Pair, e: u8) -> Pair
 
 // The products of a, which is 2, and eight symbols, as `field::shifts::double` makes them of one. The masks keep what is moved in its own byte.
 pub fn double_word(m: usize, x: u64) -> u64
-    ensures { Doubled m x result }
+    ensures each { Doubled m x result }
+    ensures zero { x ≡ 0 → result ≡ 0 }
 {
     if m == 3 {
         return (x & 0x0303030303030303) * 2 ^ (x / 4 & 0x0101010101010101) * 3;
@@ -72,7 +76,8 @@ pub fn double_word(m: usize, x: u64) -> u64
 
 // The same of sixteen symbols.
 pub fn doubled(m: usize, p: Pair) -> Pair
-    ensures { DoubledPair m p.low p.high result.low result.high }
+    ensures each { DoubledPair m p.low p.high result.low result.high }
+    ensures zero { p.high ≡ 0 → result.high ≡ 0 }
 {
     Pair {
         low: double_word(m, p.low),

@@ -1,20 +1,19 @@
 -- The calls on a frame for C (document 01, Block interleaver and frame; document 02, No. 9): the setting, what is seen of an answer, what each call promises, that
 -- the place seen is the payload's, and that no call has a second answer.
 -- Assumes nothing.
-use Rattle.std.specs.Prelude.{◌≡◌, refl, Bool, ◌≢◌, List, [], ℕ, ◌+◌, ◌-◌, eqb, take, drop, if◌then◌else◌}
-use Rattle.std.proofs.Common.{ap, ◌∙◌, arith, length-drop, ne_eqb, le-leb}
+use Rattle.std.specs.Prelude.{◌≡◌, refl, Result, Ok, Err, Option, Bool, List, ℕ, ◌+◌, ◌-◌, eqb, take, drop, if◌then◌else◌}
+use Rattle.std.proofs.Common.{ap, ◌∙◌, arith, length-drop, le-leb}
 use Rattle.std.proofs.Math.Decide.{dec_le}
 use Rattle.std.proofs.Math.ListN.{length, length-take}
 use Rattle.std.proofs.lemmas.Bool.{lt-leb}
 use Rattle.algebra.specs.Tests.{one_if}
-use Rattle.frame.specs.Frame.{allowed_frame, sent_number, number_of, word_number, is_done, payload_in, payload_of}
+use Rattle.frame.specs.Frame.{allowed_frame, sent_number, number_of, word_number, received_of, payload_in, payload_of}
 use Rattle.frame.specs.Clean.{clean_number, is_yes, unclean_word}
 use Rattle.frame.specs.Promises.{Sends, Receives, IsClean, sends_once, receives_once, is_clean_once}
 use Rattle.frame.specs.declared.setting.Framing.{Framing}
 use Rattle.frame.specs.declared.setting.Received.{Received}
-use Rattle.frame.specs.declared.clean.Clean.{Clean}
-use Rattle.frame.specs.declared.setting.Verdict.{Verdict}
-use Rattle.frame.specs.declared.setting.Verdict.TheVariants.{Done, BadSetting, BadLength, BadMark, BeyondReach, BadTrailer}
+use Rattle.frame.specs.declared.setting.ReceiveError.{ReceiveError}
+use Rattle.frame.specs.declared.clean.CleanError.{CleanError}
 use Rattle.radio.specs.Shown.{Shows, shown_once}
 use Rattle.radio.specs.declared.frames.FrameSetting.{FrameSetting}
 use Rattle.radio.specs.declared.frames.FrameAnswer.{FrameAnswer}
@@ -28,18 +27,18 @@ unfoldable pub start_of : ℕ → ℕ → ℕ → ℕ
 start_of number size many = if eqb number 0 then size - 4 - many else 0
 
 -- an answer with the area that it left
-abbrev pub frame_seen : List ℕ → Received → FrameAnswer
+abbrev pub frame_seen : List ℕ → Result Received ReceiveError → FrameAnswer
 frame_seen area t =
     record {
-      answer = number_of t.verdict;
-      word = word_number t.verdict;
-      sequence = t.sequence;
-      start = start_of (number_of t.verdict) (length area) (length (payload_of t area));
+      answer = number_of t;
+      word = word_number t;
+      sequence = (received_of t).sequence;
+      start = start_of (number_of t) (length area) (length (payload_of t area));
       length = length (payload_of t area);
-      figures = t.figures;
+      figures = (received_of t).figures;
     }
 
-abbrev pub clean_seen : Clean → FrameClean
+abbrev pub clean_seen : Result (Option ℕ) CleanError → FrameClean
 clean_seen d = record { answer = clean_number d; clean = one_if (is_yes d); word = unclean_word d }
 
 -- ---- the promises, each of the call below with what is seen of its answer
@@ -55,16 +54,6 @@ FrameIsClean s slots r = Shows clean_seen (IsClean (framing_of s) slots) r
 
 -- ---- laws
 
--- the cases of the start, one for each way out of the code
-module _ (number size many : ℕ) where
-  pub start_refused : number ≢ 0 → 0 ≡ start_of number size many
-  unfolding start_of
-  start_refused n = rw (ne_eqb number 0 n)
-
-  pub start_accepted : number ≡ 0 → (s : ℕ) → s ≡ size - 4 - many → s ≡ start_of number size many
-  unfolding start_of
-  start_accepted z s e = rw z e
-
 -- what an answer hands back is that part of the area: `length` bytes from `start` on
 module _ (back : ℕ) (area : List ℕ) where
   abbrev handed : List ℕ
@@ -79,21 +68,12 @@ module _ (back : ℕ) (area : List ℕ) where
     | no n ↦ rw (lt-leb (back + 4) (length area) (omega arith))
   ]
 
-pub payload_place : (t : Received) (area : List ℕ) →
+pub payload_place : (t : Result Received ReceiveError) (area : List ℕ) →
     let r = frame_seen area t in
     payload_of t area ≡ take r.length (drop r.start area)
-unfolding payload_of
-payload_place t area = by_verdict t.verdict
-  where
-    by_verdict : (v : Verdict) →
-        let p = if is_done v then payload_in t.back area else [] in
-        p ≡ take (length p) (drop (start_of (number_of v) (length area) (length p)) area)
-    by_verdict Done = place_in t.back area ∙ ap (λ (s : ℕ). take (length (payload_in t.back area)) (drop s area)) (start_accepted 0 (length area) _ refl _ refl)
-    by_verdict BadSetting = refl
-    by_verdict BadLength = refl
-    by_verdict BadMark = refl
-    by_verdict (BeyondReach w) = refl
-    by_verdict BadTrailer = refl
+unfolding payload_of start_of
+payload_place (Ok r) area = place_in r.back area
+payload_place (Err e) area = refl
 
 -- ---- no second answer: of each call's answer, and of what it leaves in the lent slots, or in the area and the map
 

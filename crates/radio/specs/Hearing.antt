@@ -1,9 +1,11 @@
 -- The receiver's whole call for C (document 01, Receiver's record): what is seen of record and answer after a frame, what hearing promises,
 -- and that no call has a second answer.
 -- Assumes nothing.
-use Rattle.std.specs.Prelude.{◌≡◌, List, ℕ}
+use Rattle.std.specs.Prelude.{◌≡◌, List, ℕ, Result}
 use Rattle.std.proofs.Common.{ap, ap₂}
 use Rattle.record.specs.declared.Record.{Record}
+use Rattle.frame.specs.declared.setting.Received.{Received}
+use Rattle.frame.specs.declared.setting.ReceiveError.{ReceiveError}
 use Rattle.link.specs.Promises.{Hears, hears_once}
 use Rattle.link.specs.declared.hearing.Heard.{Heard}
 use Rattle.radio.specs.Shown.{Shows, shown_once}
@@ -18,7 +20,7 @@ use Rattle.radio.specs.declared.hearing.HeardAnswer.{HeardAnswer}
 abbrev pub both_seen : LentRecord → FrameAnswer → HeardAnswer
 both_seen next answer = record { next = next; answer = answer }
 
-abbrev pub heard_seen : LentRecord → List ℕ → Heard → HeardAnswer
+abbrev pub heard_seen : LentRecord → List ℕ → Heard (Result Received ReceiveError) → HeardAnswer
 heard_seen before area t = both_seen (record_seen before t.next) (frame_seen area t.answer)
 
 -- `yaxo_hear` answers this, and `yaxo_hear_in` leaves the record and answers the rest

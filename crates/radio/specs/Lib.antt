@@ -1,6 +1,8 @@
 pub mod Shown
 pub mod Words
+pub mod Blocks
 pub mod Lines
+pub mod Crosses
 pub mod Frames
 pub mod Records
 pub mod Hearing

@@ -1,61 +1,66 @@
 -- The calls on two masts for C (document 02, No. 1): what is seen of an answer, what each call promises, that the place seen is the payload's,
 -- and that no call has a second answer.
 -- Assumes nothing.
-use Rattle.std.specs.Prelude.{◌≡◌, refl, Bool, true, false, ◌≢◌, List, [], ℕ, zero, suc, eqb, length, take, drop, if◌then◌else◌}
-use Rattle.std.proofs.Common.{sym, ap, ap₂, ◌∙◌, arith, ne_eqb}
+use Rattle.std.specs.Prelude.{◌≡◌, refl, Option, Some, None, Result, Ok, Err, List, [], ℕ, length, replicate, take, drop}
+use Rattle.std.proofs.Common.{ap₂}
+use Rattle.word.specs.Answers.{no_figures}
 use Rattle.record.specs.declared.Record.{Record}
-use Rattle.frame.specs.Frame.{number_of, verdict_as, payload_of}
-use Rattle.frame.specs.declared.setting.Verdict.TheVariants.{BadSetting, BadLength, BadMark, BeyondReach, BadTrailer}
-use Rattle.link.specs.Masts.{Copy, Left, payload_of_used, used_copy}
+use Rattle.link.specs.Masts.{Copy, Left, mast_of, masts_number, masts_word, chosen_of, payload_of_used}
 use Rattle.link.specs.Promises.{ReceivesMasts, receives_masts_once, HearsMasts, hears_masts_once}
 use Rattle.link.specs.declared.choice.Mast.{Mast}
-use Rattle.link.specs.declared.choice.Mast.TheVariants.{First, Second, Neither}
+use Rattle.link.specs.declared.choice.Mast.TheVariants.{First, Second}
 use Rattle.link.specs.declared.choice.Chosen.{Chosen}
-use Rattle.link.specs.declared.masts.MastsHeard.{MastsHeard}
+use Rattle.link.specs.declared.choice.MastsError.{MastsError}
+use Rattle.link.specs.declared.hearing.Heard.{Heard}
 use Rattle.radio.specs.Shown.{Shows, shown_once}
-use Rattle.radio.specs.Frames.{framing_of, start_of, start_refused, payload_place}
+use Rattle.radio.specs.Frames.{framing_of, start_of, payload_place}
 use Rattle.radio.specs.Records.{record_of, record_seen}
 use Rattle.radio.specs.declared.frames.FrameSetting.{FrameSetting}
+use Rattle.radio.specs.declared.frames.FrameAnswer.{FrameAnswer}
 use Rattle.radio.specs.declared.records.LentRecord.{LentRecord}
 use Rattle.radio.specs.declared.masts.ChosenAnswer.{ChosenAnswer}
 use Rattle.radio.specs.declared.masts.MastsAnswer.{MastsAnswer}
 
-abbrev pub mast_number : Mast → ℕ
-mast_number First = 1
-mast_number Second = 2
-mast_number Neither = 0
+abbrev pub mast_number : Option Mast → ℕ
+mast_number (Some First) = 1
+mast_number (Some Second) = 2
+mast_number None = 0
 
 -- of two things, one for each mast, that of the mast that is used
-abbrev pub of_used : {A : Type 0} → Mast → (first second neither : A) → A
-of_used First first second neither = first
-of_used Second first second neither = second
-of_used Neither first second neither = neither
+abbrev pub of_used : {A : Type 0} → Option Mast → (first second neither : A) → A
+of_used (Some First) first second neither = first
+of_used (Some Second) first second neither = second
+of_used None first second neither = neither
 
 -- the payload that is handed back, as a part of the area of the mast that is used
-abbrev pub handed : (first second : List ℕ) → Chosen → List ℕ
-handed first second t = payload_of_used t.mast (used_copy t) first second
+abbrev pub handed : (first second : List ℕ) → Result Chosen MastsError → List ℕ
+handed first second t = payload_of_used t first second
 
 -- an answer with the areas that it left
-abbrev pub chosen_seen : (first second : List ℕ) → Chosen → ChosenAnswer
+abbrev pub chosen_seen : (first second : List ℕ) → Result Chosen MastsError → ChosenAnswer
 chosen_seen first second t =
     record {
-      mast = mast_number t.mast;
+      mast = mast_number (mast_of t);
       frame =
           record {
-            answer = t.number;
-            word = t.word;
-            sequence = t.sequence;
-            start = start_of t.number (of_used t.mast (length first) (length second) 0) (length (handed first second t));
+            answer = masts_number t;
+            word = masts_word t;
+            sequence = (chosen_of t).sequence;
+            start = start_of (masts_number t) (of_used (mast_of t) (length first) (length second) 0) (length (handed first second t));
             length = length (handed first second t);
-            figures = t.figures;
+            figures = (chosen_of t).figures;
           };
     }
+
+-- what is seen of two accepted copies that are two frames
+abbrev pub two_frames : FrameAnswer
+two_frames = record { answer = 8; word = 0; sequence = 0; start = 0; length = 0; figures = replicate 16 no_figures }
 
 -- record and answer after two copies
 abbrev pub both_masts_seen : LentRecord → ChosenAnswer → MastsAnswer
 both_masts_seen next answer = record { next = next; answer = answer }
 
-abbrev pub masts_seen : LentRecord → (first second : List ℕ) → MastsHeard → MastsAnswer
+abbrev pub masts_seen : LentRecord → (first second : List ℕ) → Heard (Result Chosen MastsError) → MastsAnswer
 masts_seen before first second t = both_masts_seen (record_seen before t.next) (chosen_seen first second t.answer)
 
 -- ---- the promises, each of the call below with what is seen of its answer
@@ -77,42 +82,20 @@ masts_receive_once s first second r q x y x' y' p u =
 pub masts_hear_once : (h : LentRecord) (s : FrameSetting) (first second : Copy) (r q : MastsAnswer) (x y x' y' : Left) → MastsHear h s first second r x y → MastsHear h s first second q x' y' → (r ≡ q) × (x ≡ x') × (y ≡ y')
 masts_hear_once h s first second r q x y x' y' p u =
     let (a, n, l, m) = hears_masts_once p.promised u.promised in
-    (shown_once p u (ap₂ (λ (a b : Left). masts_seen h a.area b.area) l m) (ap₂ (λ (k : Record) (t : Chosen). record { next = k; answer = t }) n a), l, m)
+    (shown_once p u (ap₂ (λ (a b : Left). masts_seen h a.area b.area) l m) (ap₂ (λ (k : Record) (t : Result Chosen MastsError). record { next = k; answer = t }) n a), l, m)
 
 -- ---- the place
 
--- an answer that is not 0 has no place, whatever verdict its number is taken for
-taken_for : (number word : ℕ) → number ≢ 0 → number_of (verdict_as number word) ≢ 0
-taken_for number word n = rw (ne_eqb number 0 n) (refusal (eqb number 1) (eqb number 2) (eqb number 3) (eqb number 4))
-  where
-    refusal : (a b c d : Bool) → number_of (if a then BadSetting else if b then BadLength else if c then BadMark else if d then BeyondReach word else BadTrailer) ≢ 0
-    refusal true b c d = λ e. absurd (omega arith)
-    refusal false true c d = λ e. absurd (omega arith)
-    refusal false false true d = λ e. absurd (omega arith)
-    refusal false false false true = λ e. absurd (omega arith)
-    refusal false false false false = λ e. absurd (omega arith)
-
-start_same : (number word size many : ℕ) → start_of (number_of (verdict_as number word)) size many ≡ start_of number size many
-start_same zero word size many = refl
-start_same (suc k) word size many =
-    sym (start_refused _ size many (taken_for (suc k) word λ e. absurd (omega arith))) ∙ start_refused (suc k) size many λ e. absurd (omega arith)
-
 -- what an answer hands back is that part of the area of the mast that is used: `length` bytes from `start` on
-pub masts_place : (t : Chosen) (first second : List ℕ) →
+pub masts_place : (t : Result Chosen MastsError) (first second : List ℕ) →
     let r = (chosen_seen first second t).frame in
-    handed first second t ≡ take r.length (drop r.start (of_used t.mast first second []))
-masts_place t first second = by_mast t.mast
+    handed first second t ≡ take r.length (drop r.start (of_used (mast_of t) first second []))
+masts_place (Ok c) first second = by_mast c.mast
   where
-    place_in : (area : List ℕ) →
-        let many = length (payload_of (used_copy t) area) in
-        payload_of (used_copy t) area ≡ take many (drop (start_of t.number (length area) many) area)
-    place_in area =
-        let many : ℕ = length (payload_of (used_copy t) area) in
-        payload_place (used_copy t) area ∙ ap (λ (s : ℕ). take many (drop s area)) (start_same t.number t.word (length area) many)
-
     by_mast : (mast : Mast) →
-        let p = payload_of_used mast (used_copy t) first second in
-        p ≡ take (length p) (drop (start_of t.number (of_used mast (length first) (length second) 0) (length p)) (of_used mast first second []))
-    by_mast First = place_in first
-    by_mast Second = place_in second
-    by_mast Neither = refl
+        let t : Result Chosen MastsError = Ok (record { mast = mast; copy = c.copy }) in
+        let r = (chosen_seen first second t).frame in
+        handed first second t ≡ take r.length (drop r.start (of_used (mast_of t) first second []))
+    by_mast First = payload_place (Ok c.copy) first
+    by_mast Second = payload_place (Ok c.copy) second
+masts_place (Err e) first second = refl

@@ -1,8 +1,8 @@
 -- The record's calls for C (document 01, Receiver's record): the record as C lends it, what is seen of the one after a frame, what noting
 -- promises, and that no call has a second answer.
 -- Assumes nothing.
-use Rattle.std.specs.Prelude.{◌≡◌, refl, Bool, true, false, not, ◌≢◌, ℕ, eqb, if◌then◌else◌}
-use Rattle.std.proofs.Common.{sym, ne_eqb}
+use Rattle.std.specs.Prelude.{◌≡◌, refl, Bool, not, ℕ, eqb, if◌then◌else◌}
+use Rattle.std.proofs.Common.{ne_eqb}
 use Rattle.std.proofs.Math.Decide.{ℕ_discrete}
 use Rattle.record.specs.Memory.{unseen_in}
 use Rattle.record.specs.Record.{fresh_record, standing}
@@ -69,25 +69,9 @@ RecordNote h answer new r = Shows (record_seen h) (Notes (record_of h) answer ne
 pub fresh_lent_lem : record_of fresh_lent ≡ fresh_record
 fresh_lent_lem = refl
 
--- the cases of the byte, one for each way out of the code
-module _ (flag : ℕ) (accepted : Bool) where
-  pub flag_told : flag ≢ 0 → flag ≡ flag_after flag accepted
-  unfolding flag_after
-  flag_told n = rw (ne_eqb flag 0 n)
-
-  pub flag_first : flag ≡ 0 → accepted ≡ true → 1 ≡ flag_after flag accepted
-  unfolding flag_after
-  flag_first z a = rw (z, a)
-
-  pub flag_none : flag ≡ 0 → accepted ≡ false → 0 ≡ flag_after flag accepted
-  unfolding flag_after
-  flag_none z a = rw (z, a)
-
 flag_stays : (flag : ℕ) → flag_after flag (not (eqb flag 0)) ≡ flag
-flag_stays flag = elim (ℕ_discrete flag 0) [
-  | yes z ↦ rw z (sym (flag_none 0 false refl refl))
-  | no n ↦ sym (flag_told flag _ n)
-]
+unfolding flag_after
+flag_stays flag = elim (ℕ_discrete flag 0) [ yes z ↦ rw z | no n ↦ rw (ne_eqb flag 0 n) ]
 
 -- a record that is left alone is left alone to the byte
 pub lent_stays : (h : LentRecord) → record_seen h (record_of h) ≡ h

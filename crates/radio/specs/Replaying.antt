@@ -1,11 +1,12 @@
 -- A morning's frames for C (document 02, No. 2): what is seen of record and answer, what the calls promise, and that no call has a second answer.
 -- Assumes nothing.
-use Rattle.std.specs.Prelude.{◌≡◌, refl, List, ℕ}
+use Rattle.std.specs.Prelude.{◌≡◌, refl, Result, List, ℕ}
 use Rattle.std.proofs.Common.{ap₂}
 use Rattle.record.specs.declared.Record.{Record}
+use Rattle.link.specs.Replay.{replay_number, frames_heard}
 use Rattle.link.specs.Promises.{Replays, replays_once}
-use Rattle.link.specs.declared.replaying.Replayed.{Replayed}
-use Rattle.link.specs.declared.replaying.ReplayHeard.{ReplayHeard}
+use Rattle.link.specs.declared.replaying.ReplayError.{ReplayError}
+use Rattle.link.specs.declared.hearing.Heard.{Heard}
 use Rattle.radio.specs.Shown.{Shows, shown_once}
 use Rattle.radio.specs.Frames.{framing_of}
 use Rattle.radio.specs.declared.frames.FrameSetting.{FrameSetting}
@@ -14,14 +15,14 @@ use Rattle.radio.specs.declared.records.LentRecord.{LentRecord}
 use Rattle.radio.specs.declared.replaying.ReplayedAnswer.{ReplayedAnswer}
 use Rattle.radio.specs.declared.replaying.ReplayAnswer.{ReplayAnswer}
 
-abbrev pub replayed_seen : Replayed → ReplayedAnswer
-replayed_seen t = record { answer = t.number; frames = t.frames }
+abbrev pub replayed_seen : Result ℕ ReplayError → ReplayedAnswer
+replayed_seen t = record { answer = replay_number t; frames = frames_heard t }
 
 -- record and answer after the frames, with the record that was lent
 abbrev pub both_replayed_seen : LentRecord → ReplayedAnswer → ReplayAnswer
 both_replayed_seen next answer = record { next = next; answer = answer }
 
-abbrev pub replay_seen : LentRecord → ReplayHeard → ReplayAnswer
+abbrev pub replay_seen : LentRecord → Heard (Result ℕ ReplayError) → ReplayAnswer
 replay_seen before t = both_replayed_seen (record_seen before t.next) (replayed_seen t.answer)
 
 -- `yaxo_replay` answers this, and `yaxo_replay_in` leaves the record and answers the rest
@@ -34,4 +35,4 @@ pub replay_once : (h : LentRecord) (s : FrameSetting) (slots marks areas maps re
     → Replay h s slots marks areas maps results r x x' x'' → Replay h s slots marks areas maps results q y y' y'' → (r ≡ q) × (x ≡ y) × (x' ≡ y') × (x'' ≡ y'')
 replay_once h s slots marks areas maps results r q x y x' y' x'' y'' p u =
     let (a, n, l, m, o) = replays_once p.promised u.promised in
-    (shown_once p u refl (ap₂ (λ (k : Record) (t : Replayed). record { next = k; answer = t }) n a), l, m, o)
+    (shown_once p u refl (ap₂ (λ (k : Record) (t : Result ℕ ReplayError). record { next = k; answer = t }) n a), l, m, o)

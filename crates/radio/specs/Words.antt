@@ -1,15 +1,16 @@
 -- The word code's calls for C (document 01, Word code; document 02, No. 9): the setting, what is seen of an answer, what each call promises, and that no call
 -- has a second answer.
 -- Assumes nothing.
-use Rattle.std.specs.Prelude.{◌≡◌, refl, Bool, List, ℕ}
+use Rattle.std.specs.Prelude.{◌≡◌, refl, Result, Bool, List, ℕ}
 use Rattle.algebra.specs.Tests.{one_if}
 use Rattle.word.specs.Setting.{allowed}
 use Rattle.word.specs.Answers.{number_of, figures_of, encoded_number}
 use Rattle.word.specs.Clean.{clean_number, is_yes}
 use Rattle.word.specs.Promises.{Encodes, Decodes, DecodesPart, IsClean, encodes_once, decodes_once, decodes_part_once, is_clean_once}
 use Rattle.word.specs.declared.Setting.{Setting}
-use Rattle.word.specs.declared.Decoded.{Decoded}
-use Rattle.word.specs.declared.clean.Clean.{Clean}
+use Rattle.word.specs.declared.Figures.{Figures}
+use Rattle.word.specs.declared.InputError.{InputError}
+use Rattle.word.specs.declared.DecodeError.{DecodeError}
 use Rattle.radio.specs.Shown.{Shows, shown_once}
 use Rattle.radio.specs.declared.words.CodeSetting.{CodeSetting}
 use Rattle.radio.specs.declared.words.WordAnswer.{WordAnswer}
@@ -18,10 +19,10 @@ use Rattle.radio.specs.declared.words.WordClean.{WordClean}
 abbrev pub code_of : CodeSetting → Setting
 code_of s = record { m = s.m; n = s.n; r = s.r; b = s.b }
 
-abbrev pub decoded_seen : Decoded → WordAnswer
+abbrev pub decoded_seen : Result Figures DecodeError → WordAnswer
 decoded_seen d = record { answer = number_of d; figures = figures_of d }
 
-abbrev pub clean_seen : Clean → WordClean
+abbrev pub clean_seen : Result Bool InputError → WordClean
 clean_seen d = record { answer = clean_number d; clean = one_if (is_yes d) }
 
 -- ---- the promises, each of the call below with what is seen of its answer

@@ -3,8 +3,10 @@ ghost use Rattle.std.specs.Prelude.{◌≡◌};
 ghost use Rattle.frame.specs.Frame.{allowed_frame};
 ghost use Rattle.radio.specs.Frames.{framing_of, start_of, frame_seen, clean_seen, FrameSend, FrameReceive, FrameIsClean};
 
-use frame::numbers::{number_of, sent_number, word_number};
-use link::{Clean, Framing, Received, is_allowed, is_clean, payload, receive, send};
+use frame::numbers::{number_of, received_of, sent_number, word_number};
+use frame::{
+    CleanError, Framing, ReceiveError, Received, is_allowed, is_clean, payload, receive, send,
+};
 use word::Figures;
 
 // A frame as C sets it.
@@ -39,46 +41,42 @@ pub struct FrameClean {
 }
 
 // The setting below.
-pub fn framing_of(framing: FrameSetting) -> Framing
-    ensures { result ≡ framing_of framing }
-{
-    Framing {
-        depth: framing.depth as usize,
-        n: framing.n as usize,
-        r: framing.r as usize,
-        b: framing.b as usize,
+impl From<FrameSetting> for Framing {
+    ghost from_gives = { λ framing f. f ≡ framing_of framing };
+
+    fn from(framing: FrameSetting) -> Framing {
+        Framing {
+            depth: framing.depth as usize,
+            n: framing.n as usize,
+            r: framing.r as usize,
+            b: framing.b as usize,
+        }
     }
 }
 
 // Where a payload of so many bytes starts in an area of `size`: it ends four before the end. 0 where the frame was refused.
+#[tactic(auto, unfolding(crate::specs::Frames::start_of))]
 pub fn start_of(number: u8, size: usize, length: usize) -> usize
     ensures { result ≡ start_of number size length }
 {
     if number != 0 {
         return 0;
     }
-    if size < 4 {
-        return 0;
-    }
-    if size - 4 < length {
-        return 0;
-    }
-    size - 4 - length
+    size.saturating_sub(4).saturating_sub(length)
 }
 
 // A frame's answer as C sees it, with the area that it left.
-pub fn frame_answer(t: Received, area: &[u8]) -> FrameAnswer
+pub fn frame_answer(t: Result<Received, ReceiveError>, area: &[u8]) -> FrameAnswer
     ensures { result ≡ frame_seen area.now t }
 {
-    let verdict = t.verdict;
-    let answer = number_of(verdict);
-    let part = payload(area, t);
-    let length = part.len();
-    let figures = t.figures;
+    let answer = number_of(t);
+    let length = payload(area, t).len();
+    let numbers = received_of(t);
+    let figures = numbers.figures;
     FrameAnswer {
         answer,
-        word: word_number(verdict),
-        sequence: t.sequence,
+        word: word_number(t),
+        sequence: numbers.sequence,
         start: start_of(answer, area.len(), length),
         length,
         figures,
@@ -86,30 +84,21 @@ pub fn frame_answer(t: Received, area: &[u8]) -> FrameAnswer
 }
 
 // The answer of a frame that is only asked about, as C sees it.
-fn frame_clean(d: Clean) -> FrameClean
-    ensures { result ≡ clean_seen d }
-{
-    match d {
-        Clean::Yes => FrameClean {
-            answer: 0,
-            clean: 1,
-            word: 0,
-        },
-        Clean::No(w) => FrameClean {
-            answer: 0,
-            clean: 0,
-            word: w,
-        },
-        Clean::BadSetting => FrameClean {
-            answer: 1,
-            clean: 0,
-            word: 0,
-        },
-        Clean::BadLength => FrameClean {
-            answer: 2,
-            clean: 0,
-            word: 0,
-        },
+impl From<Result<Option<u8>, CleanError>> for FrameClean {
+    ghost from_gives = { λ d r. r ≡ clean_seen d };
+
+    fn from(d: Result<Option<u8>, CleanError>) -> FrameClean {
+        let (answer, clean, word) = match d {
+            Ok(None) => (0, 1, 0),
+            Ok(Some(word)) => (0, 0, word),
+            Err(CleanError::BadSetting) => (1, 0, 0),
+            Err(CleanError::BadLength) => (2, 0, 0),
+        };
+        FrameClean {
+            answer,
+            clean,
+            word,
+        }
     }
 }
 
@@ -118,7 +107,7 @@ fn frame_clean(d: Clean) -> FrameClean
 pub extern "C" fn yaxo_frame_is_allowed(framing: FrameSetting) -> bool
     ensures { result ≡ allowed_frame (framing_of framing) }
 {
-    is_allowed(framing_of(framing))
+    is_allowed(framing.into())
 }
 
 // Sends a payload with its sequence number. Answers 0, 1, 2 or 6; refused, the slots stay as they were.
@@ -131,8 +120,7 @@ pub extern "C" fn yaxo_frame_send(
 ) -> u8
     ensures { FrameSend framing payload.now sequence slots.old result slots.new }
 {
-    let d = send(framing_of(framing), payload, sequence, slots);
-    sent_number(d)
+    sent_number(send(framing.into(), payload, sequence, slots))
 }
 
 // Receives a frame into the lent area and map. Answers 0 to 5; under 1, 2 and 3 both stay as they were, under 4 and 5 they are zeros.
@@ -146,8 +134,8 @@ pub extern "C" fn yaxo_frame_receive(
 ) -> FrameAnswer
     ensures { FrameReceive framing slots.now marks.now area.old map.old result area.new map.new }
 {
-    let t = receive(framing_of(framing), slots, marks, area, map);
-    frame_answer(t, area)
+    let answer = receive(framing.into(), slots, marks, area, map);
+    frame_answer(answer, area)
 }
 
 // Whether every word of a frame is a codeword as received, and which is the first that is none. Answers 0, 1 or 2.
@@ -155,6 +143,5 @@ pub extern "C" fn yaxo_frame_receive(
 pub extern "C" fn yaxo_frame_is_clean(framing: FrameSetting, slots: &[u8]) -> FrameClean
     ensures { FrameIsClean framing slots.now result }
 {
-    let d = is_clean(framing_of(framing), slots);
-    frame_clean(d)
+    is_clean(framing.into(), slots).into()
 }

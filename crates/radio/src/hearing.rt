@@ -1,8 +1,8 @@
 // The receiver's whole call for C: a frame's answer and the record after it are shown as `frames` and `records` show them.
 ghost use Rattle.radio.specs.Hearing.{both_seen, Hear};
 
-use crate::frames::{FrameAnswer, FrameSetting, frame_answer, framing_of};
-use crate::records::{LentRecord, record_of, record_seen};
+use crate::frames::{FrameAnswer, FrameSetting, frame_answer};
+use crate::records::{LentRecord, record_seen};
 use link::hear;
 
 // The record after a frame, and what the frame was answered.
@@ -25,16 +25,9 @@ pub extern "C" fn yaxo_hear(
 ) -> HeardAnswer
     ensures { Hear before framing slots.now marks.now area.old map.old result area.new map.new }
 {
-    let t = hear(
-        record_of(before),
-        framing_of(framing),
-        slots,
-        marks,
-        area,
-        map,
-    );
-    let next = record_seen(before, t.next);
-    let answer = frame_answer(t.answer, area);
+    let heard = hear(before.into(), framing.into(), slots, marks, area, map);
+    let next = record_seen(before, heard.next);
+    let answer = frame_answer(heard.answer, area);
     HeardAnswer { next, answer }
 }
 

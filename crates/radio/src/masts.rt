@@ -2,11 +2,12 @@
 // that is used.
 ghost use Rattle.std.specs.Prelude.{◌≡◌};
 ghost use Rattle.link.specs.Masts.{copy_of, left_of};
-ghost use Rattle.radio.specs.Masts.{mast_number, of_used, chosen_seen, both_masts_seen, MastsReceive, MastsHear};
+ghost use Rattle.radio.specs.Masts.{two_frames, chosen_seen, both_masts_seen, MastsReceive, MastsHear};
 
-use crate::frames::{FrameAnswer, FrameSetting, framing_of, start_of};
-use crate::records::{LentRecord, record_of, record_seen};
-use link::{Chosen, Mast, hear_masts, masts_payload, receive_masts};
+use crate::frames::{FrameAnswer, FrameSetting, frame_answer};
+use crate::records::{LentRecord, record_seen};
+use link::{Chosen, Mast, MastCopy, MastsError, hear_masts, receive_masts};
+use word::numbers::no_figures;
 
 // The mast that is used, and what both copies are answered, as a frame's answer.
 #[repr(C)]
@@ -24,48 +25,44 @@ pub struct MastsAnswer {
     pub answer: ChosenAnswer,
 }
 
-// The number of a mast; 0 for neither.
-fn mast_number(mast: Mast) -> u8
-    ensures { result ≡ mast_number mast }
+// What C is told of two accepted copies that are two frames.
+fn two_frames() -> FrameAnswer
+    ensures { result ≡ two_frames }
 {
-    match mast {
-        Mast::First => 1,
-        Mast::Second => 2,
-        Mast::Neither => 0,
+    FrameAnswer {
+        answer: 8,
+        word: 0,
+        sequence: 0,
+        start: 0,
+        length: 0,
+        figures: [no_figures(); 16],
     }
 }
 
-// The bytes of the area whose copy is used; 0 where neither is.
-fn size_of_used(mast: Mast, first: usize, second: usize) -> usize
-    ensures { result ≡ of_used mast first second 0 }
-{
-    match mast {
-        Mast::First => first,
-        Mast::Second => second,
-        Mast::Neither => 0,
-    }
-}
-
-// The answer as C sees it, with the areas that were left.
-fn chosen_answer<'a>(t: Chosen, first: &'a [u8], second: &'a [u8]) -> ChosenAnswer
+// The answer as C sees it, with the areas that were left: that of the copy that is used, as a frame's answer.
+#[tactic(auto, unfolding(crate::specs::Frames::start_of, frame::specs::Frame::payload_of))]
+fn chosen_answer(t: Result<Chosen, MastsError>, first: &[u8], second: &[u8]) -> ChosenAnswer
     ensures { result ≡ chosen_seen first.now second.now t }
 {
-    let mast = t.mast;
-    let part = masts_payload(first, second, t);
-    let length = part.len();
-    let size = size_of_used(mast, first.len(), second.len());
-    let figures = t.figures;
-    let frame = FrameAnswer {
-        answer: t.number,
-        word: t.word,
-        sequence: t.sequence,
-        start: start_of(t.number, size, length),
-        length,
-        figures,
-    };
-    ChosenAnswer {
-        mast: mast_number(mast),
-        frame,
+    match t {
+        Ok(chosen) => match chosen.mast {
+            Mast::First => ChosenAnswer {
+                mast: 1,
+                frame: frame_answer(Ok(chosen.copy), first),
+            },
+            Mast::Second => ChosenAnswer {
+                mast: 2,
+                frame: frame_answer(Ok(chosen.copy), second),
+            },
+        },
+        Err(MastsError::Refused(reason)) => ChosenAnswer {
+            mast: 0,
+            frame: frame_answer(Err(reason), &[]),
+        },
+        Err(MastsError::Differ) => ChosenAnswer {
+            mast: 0,
+            frame: two_frames(),
+        },
     }
 }
 
@@ -84,18 +81,20 @@ pub extern "C" fn yaxo_masts_receive(
 ) -> ChosenAnswer
     ensures { MastsReceive framing (copy_of slots1.now marks1.now area1.old map1.old) (copy_of slots2.now marks2.now area2.old map2.old) result (left_of area1.new map1.new) (left_of area2.new map2.new) }
 {
-    let t = receive_masts(
-        framing_of(framing),
-        slots1,
-        marks1,
-        area1,
-        map1,
-        slots2,
-        marks2,
-        area2,
-        map2,
-    );
-    chosen_answer(t, area1, area2)
+    let mut first = MastCopy {
+        slots: slots1,
+        marks: marks1,
+        area: &mut area1[..],
+        map: map1,
+    };
+    let mut second = MastCopy {
+        slots: slots2,
+        marks: marks2,
+        area: &mut area2[..],
+        map: map2,
+    };
+    let answer = receive_masts(framing.into(), &mut first, &mut second);
+    chosen_answer(answer, area1, area2)
 }
 
 // The same, and what is handed back is noted.
@@ -114,20 +113,21 @@ pub extern "C" fn yaxo_masts_hear(
 ) -> MastsAnswer
     ensures { MastsHear before framing (copy_of slots1.now marks1.now area1.old map1.old) (copy_of slots2.now marks2.now area2.old map2.old) result (left_of area1.new map1.new) (left_of area2.new map2.new) }
 {
-    let t = hear_masts(
-        record_of(before),
-        framing_of(framing),
-        slots1,
-        marks1,
-        area1,
-        map1,
-        slots2,
-        marks2,
-        area2,
-        map2,
-    );
-    let next = record_seen(before, t.next);
-    let answer = chosen_answer(t.answer, area1, area2);
+    let mut first = MastCopy {
+        slots: slots1,
+        marks: marks1,
+        area: &mut area1[..],
+        map: map1,
+    };
+    let mut second = MastCopy {
+        slots: slots2,
+        marks: marks2,
+        area: &mut area2[..],
+        map: map2,
+    };
+    let heard = hear_masts(before.into(), framing.into(), &mut first, &mut second);
+    let next = record_seen(before, heard.next);
+    let answer = chosen_answer(heard.answer, area1, area2);
     MastsAnswer { next, answer }
 }
 

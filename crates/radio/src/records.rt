@@ -8,7 +8,7 @@ use record::{Kind, Record, note, standing_of, unseen_of};
 
 // The record as C lends it. C can put any byte where a `bool` is to be, so `accepted` is a byte: 0, or anything else for yes.
 #[repr(C)]
-#[derive(Clone, Copy)]
+#[derive(Clone, Copy, Default)]
 pub struct LentRecord {
     pub accepted: u8,
     pub last: u16,
@@ -21,33 +21,30 @@ pub struct LentRecord {
 }
 
 // The record below.
-pub fn record_of(lent: LentRecord) -> Record
-    ensures { result ≡ record_of lent }
-{
-    Record {
-        accepted: lent.accepted != 0,
-        last: lent.last,
-        newer: lent.newer,
-        repeat: lent.repeat,
-        older: lent.older,
-        refused: lent.refused,
-        late: lent.late,
-        seen: lent.seen,
+impl From<LentRecord> for Record {
+    ghost from_gives = { λ lent h. h ≡ record_of lent };
+
+    fn from(lent: LentRecord) -> Record {
+        Record {
+            accepted: lent.accepted != 0,
+            last: lent.last,
+            newer: lent.newer,
+            repeat: lent.repeat,
+            older: lent.older,
+            refused: lent.refused,
+            late: lent.late,
+            seen: lent.seen,
+        }
     }
 }
 
 // The byte that tells whether a frame was accepted. One that tells it already stays as it is, so that a record that is left alone
 // is left alone to the byte.
+#[tactic(auto, unfolding(crate::specs::Records::flag_after))]
 fn flag_after(flag: u8, accepted: bool) -> u8
     ensures { result ≡ flag_after flag accepted }
 {
-    if flag != 0 {
-        return flag;
-    }
-    if accepted {
-        return 1;
-    }
-    0
+    if flag != 0 { flag } else { u8::from(accepted) }
 }
 
 // The next record as C sees it.
@@ -83,16 +80,7 @@ fn kind_number(kind: Kind) -> u8
 pub extern "C" fn yaxo_record_fresh() -> LentRecord
     ensures { result ≡ fresh_lent }
 {
-    LentRecord {
-        accepted: 0,
-        last: 0,
-        newer: 0,
-        repeat: 0,
-        older: 0,
-        refused: 0,
-        late: 0,
-        seen: 0,
-    }
+    LentRecord::default()
 }
 
 // A record of which only these three are known. They alone decide how a number stands, and which are unseen.
@@ -102,12 +90,8 @@ fn judged_by(accepted: u8, last: u16, seen: u32) -> LentRecord
     LentRecord {
         accepted,
         last,
-        newer: 0,
-        repeat: 0,
-        older: 0,
-        refused: 0,
-        late: 0,
         seen,
+        ..LentRecord::default()
     }
 }
 
@@ -117,8 +101,7 @@ pub extern "C" fn yaxo_record_standing(accepted: u8, last: u16, seen: u32, seque
     ensures { result ≡ kind_number (standing (record_of (judged_by accepted last seen)) sequence) }
 {
     let lent = judged_by(accepted, last, seen);
-    let kind = standing_of(record_of(lent), sequence);
-    kind_number(kind)
+    kind_number(standing_of(lent.into(), sequence))
 }
 
 // How many of the 32 numbers just below a record's newest one were not accepted.
@@ -127,7 +110,7 @@ pub extern "C" fn yaxo_record_unseen(seen: u32) -> u32
     ensures { result ≡ unseen_in seen }
 {
     let lent = judged_by(0, 0, seen);
-    unseen_of(record_of(lent))
+    unseen_of(lent.into())
 }
 
 // The record after a frame that was answered so. Only 0, 4 and 5 change it.
@@ -135,7 +118,7 @@ pub extern "C" fn yaxo_record_unseen(seen: u32) -> u32
 pub extern "C" fn yaxo_record_note(before: LentRecord, answer: u8, sequence: u16) -> LentRecord
     ensures { RecordNote before answer sequence result }
 {
-    let next = note(record_of(before), answer, sequence);
+    let next = note(before.into(), answer, sequence);
     record_seen(before, next)
 }
 

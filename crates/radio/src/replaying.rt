@@ -2,9 +2,10 @@
 ghost use Rattle.std.specs.Prelude.{◌≡◌};
 ghost use Rattle.radio.specs.Replaying.{replayed_seen, both_replayed_seen, Replay};
 
-use crate::frames::{FrameSetting, framing_of};
-use crate::records::{LentRecord, record_of, record_seen};
-use link::{Replayed, replay};
+use crate::frames::FrameSetting;
+use crate::records::{LentRecord, record_seen};
+use link::numbers::{frames_heard, replay_number};
+use link::{ReplayError, replay};
 
 // What a replay answers: the whole call's number, and how many frames were heard.
 #[repr(C)]
@@ -23,12 +24,14 @@ pub struct ReplayAnswer {
 }
 
 // The answer as C sees it.
-fn replayed_answer(t: Replayed) -> ReplayedAnswer
-    ensures { result ≡ replayed_seen t }
-{
-    ReplayedAnswer {
-        answer: t.number,
-        frames: t.frames,
+impl From<Result<usize, ReplayError>> for ReplayedAnswer {
+    ghost from_gives = { λ t r. r ≡ replayed_seen t };
+
+    fn from(t: Result<usize, ReplayError>) -> ReplayedAnswer {
+        ReplayedAnswer {
+            answer: replay_number(t),
+            frames: frames_heard(t),
+        }
     }
 }
 
@@ -46,8 +49,8 @@ pub extern "C" fn yaxo_replay(
     ensures { Replay before framing slots.now marks.now areas.old maps.old results.old result areas.new maps.new results.new }
 {
     let t = replay(
-        record_of(before),
-        framing_of(framing),
+        before.into(),
+        framing.into(),
         slots,
         marks,
         areas,
@@ -55,7 +58,7 @@ pub extern "C" fn yaxo_replay(
         results,
     );
     let next = record_seen(before, t.next);
-    let answer = replayed_answer(t.answer);
+    let answer = t.answer.into();
     ReplayAnswer { next, answer }
 }
 

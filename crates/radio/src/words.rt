@@ -4,7 +4,9 @@ ghost use Rattle.word.specs.Setting.{allowed};
 ghost use Rattle.radio.specs.Words.{code_of, decoded_seen, clean_seen, WordEncode, WordDecode, WordDecodePart, WordIsClean};
 
 use word::numbers::{encoded_number, figures_of, number_of};
-use word::{Clean, Decoded, Figures, Setting, decode, decode_part, encode, is_allowed, is_clean};
+use word::{
+    DecodeError, Figures, InputError, Setting, decode, decode_part, encode, is_allowed, is_clean,
+};
 
 // A word code as C sets it. 32 bits hold every number that C is likely to hand in by mistake, -1 too, so that it is refused.
 #[repr(C)]
@@ -33,51 +35,41 @@ pub struct WordClean {
 }
 
 // The setting below.
-fn code_of(code: CodeSetting) -> Setting
-    ensures { result ≡ code_of code }
-{
-    Setting {
-        m: code.m as usize,
-        n: code.n as usize,
-        r: code.r as usize,
-        b: code.b as usize,
+impl From<CodeSetting> for Setting {
+    ghost from_gives = { λ code s. s ≡ code_of code };
+
+    fn from(code: CodeSetting) -> Setting {
+        Setting {
+            m: code.m as usize,
+            n: code.n as usize,
+            r: code.r as usize,
+            b: code.b as usize,
+        }
     }
 }
 
 // A decoder's answer as C sees it.
-fn word_answer(d: Decoded) -> WordAnswer
-    ensures { result ≡ decoded_seen d }
-{
-    let answer = number_of(d);
-    let figures = figures_of(d);
-    WordAnswer { answer, figures }
+impl From<Result<Figures, DecodeError>> for WordAnswer {
+    ghost from_gives = { λ d r. r ≡ decoded_seen d };
+
+    fn from(d: Result<Figures, DecodeError>) -> WordAnswer {
+        WordAnswer {
+            answer: number_of(d),
+            figures: figures_of(d),
+        }
+    }
 }
 
 // The answer of a word that is only asked about, as C sees it.
-fn word_clean(d: Clean) -> WordClean
-    ensures { result ≡ clean_seen d }
-{
-    match d {
-        Clean::Yes => WordClean {
-            answer: 0,
-            clean: 1,
-        },
-        Clean::No => WordClean {
-            answer: 0,
-            clean: 0,
-        },
-        Clean::BadSetting => WordClean {
-            answer: 1,
-            clean: 0,
-        },
-        Clean::BadLength => WordClean {
-            answer: 2,
-            clean: 0,
-        },
-        Clean::BadSymbol => WordClean {
-            answer: 3,
-            clean: 0,
-        },
+impl From<Result<bool, InputError>> for WordClean {
+    ghost from_gives = { λ d r. r ≡ clean_seen d };
+
+    fn from(d: Result<bool, InputError>) -> WordClean {
+        let (answer, clean) = match d {
+            Ok(clean) => (0, u8::from(clean)),
+            Err(e) => (e.number(), 0),
+        };
+        WordClean { answer, clean }
     }
 }
 
@@ -86,7 +78,7 @@ fn word_clean(d: Clean) -> WordClean
 pub extern "C" fn yaxo_word_is_allowed(code: CodeSetting) -> bool
     ensures { result ≡ allowed (code_of code) }
 {
-    is_allowed(code_of(code))
+    is_allowed(code.into())
 }
 
 // Encodes k message symbols to a word of n. Answers 0, 1, 2 or 3; refused, the word stays as it was.
@@ -94,8 +86,7 @@ pub extern "C" fn yaxo_word_is_allowed(code: CodeSetting) -> bool
 pub extern "C" fn yaxo_word_encode(code: CodeSetting, message: &[u8], word: &mut [u8]) -> u8
     ensures { WordEncode code message.now word.old result word.new }
 {
-    let d = encode(code_of(code), message, word);
-    encoded_number(d)
+    encoded_number(encode(code.into(), message, word))
 }
 
 // Corrects a word where it stands, and maps where. Answers 0 to 4; refused, the word stays as received. The map stays under 1, 2 and 3, and is
@@ -109,8 +100,7 @@ pub extern "C" fn yaxo_word_decode(
 ) -> WordAnswer
     ensures { WordDecode code word.old marks.now map.old result word.new map.new }
 {
-    let d = decode(code_of(code), word, marks, map);
-    word_answer(d)
+    decode(code.into(), word, marks, map).into()
 }
 
 // The same with the received word only read: its k message symbols go to the part. Refused, the part stays as it was.
@@ -124,8 +114,7 @@ pub extern "C" fn yaxo_word_decode_part(
 ) -> WordAnswer
     ensures { WordDecodePart code received.now marks.now part.old map.old result part.new map.new }
 {
-    let d = decode_part(code_of(code), received, marks, part, map);
-    word_answer(d)
+    decode_part(code.into(), received, marks, part, map).into()
 }
 
 // Whether a received word is a codeword as it stands. Answers 0, 1, 2 or 3.
@@ -133,6 +122,5 @@ pub extern "C" fn yaxo_word_decode_part(
 pub extern "C" fn yaxo_word_is_clean(code: CodeSetting, word: &[u8]) -> WordClean
     ensures { WordIsClean code word.now result }
 {
-    let d = is_clean(code_of(code), word);
-    word_clean(d)
+    is_clean(code.into(), word).into()
 }

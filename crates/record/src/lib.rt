@@ -16,9 +16,9 @@ use memory::{count_unseen, see, seen_at, slide};
 use order::{Order, compare, lag_of, lead_of};
 
 // A caller makes it by `fresh` and hands it to every call that receives. What `radio` lends to C has the same fields in the same order.
-#[repr(C)]
 #[derive(Clone, Copy, Debug, PartialEq, Eq, Default)]
 pub struct Record {
+    // The flag stands beside the numbers, and not around them: `Notes` and `standing` speak of a record that has accepted nothing with any of these.
     pub accepted: bool,
     pub last: u16,
     pub newer: u32,
@@ -144,7 +144,8 @@ fn lost(before: Record) -> Record
 }
 
 // The record after a frame that was answered `number`; its sequence number counts only where that is 0.
-// 4 and 5 add to the refused ones, and every other refusal leaves the record as it was.
+// 4 and 5 add to the refused ones, and every other refusal leaves the record as it was. It stays a number, since C hands any byte on, and `Notes`
+// says what each of them leaves.
 #[tactic(auto, unfolding(crate::specs::Record::noted))]
 pub fn note(before: Record, number: u8, sequence: u16) -> Record
     ensures { Notes before number sequence result }
@@ -156,7 +157,7 @@ pub fn note(before: Record, number: u8, sequence: u16) -> Record
     }
 }
 
-// The same over a lent record, which is updated where it stands.
+// The same over a lent record, which is updated where it stands. Both calls stay, since callers and README name both.
 pub fn note_in(lent: &mut Record, number: u8, sequence: u16)
     ensures { Notes lent.old number sequence lent.new }
 {

@@ -46,7 +46,8 @@ fn walk(
     }
 }
 
-// The units of a branch's ring: the receiver, with `back`, holds back longest where the sender held back least.
+// The units of a branch's ring: the receiver, with `back`, holds back longest where the sender held back least. A flag tells the two orders apart:
+// as a closure an order would bring a promise of its own into every contract on the way, and there is no third.
 fn ring_of(branch: usize, branches: usize, back: bool) -> usize
     requires { branch < branches }
     ensures { result ≡ order back branches branch }

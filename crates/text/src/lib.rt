@@ -84,13 +84,13 @@ impl Page<'_> {
         self.put_decimal(n);
     }
 
-    // Writes the line of a refusal by its number.
+    // Writes the line of a refusal by its number, which is what is written: the text knows no reasons.
     #[tactic(auto, using(crate::specs::Page::writes_then), unfolding(crate::specs::Text::refusal))]
     pub fn put_refusal(&mut self, number: u8)
         requires { self.old.end + 14 ≤ length self.old.text.now }
         ensures { Writes (refusal number) self.old self.new }
     {
-        self.put_named(b"refused ", number as usize);
+        self.put_named(b"refused ", usize::from(number));
         self.put_byte(b'\n');
     }
 

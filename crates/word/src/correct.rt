@@ -9,7 +9,7 @@ use buffers::copy;
 use checks::syndrome::{all_zero, syndromes};
 use decoder::correct::correct;
 use decoder::kernel::kernel;
-use decoder::locate::{candidates, locators};
+use decoder::locate::Places;
 use decoder::peel::peel_all;
 
 // Corrects every candidate place of a word with these power sums, f of whose places are marked, and gives the power sums that are left.
@@ -17,14 +17,12 @@ fn correct_places(s: Setting, marks: &[u8], f: usize, sums: [u8; 16], word: &mut
     requires { (s.n ≤ 255) × (s.r ≤ 16) × (s.b ≤ 1) × (f ≤ s.r) × (length marks.now ≡ s.n) × (length word.old ≡ s.n) }
     ensures { Steps s marks.now f sums word.old word.new result }
 {
-    let m = s.m;
-    let n = s.n;
     let t = (s.r - f) / 2;
-    let locators = locators(m, n);
-    let peeled = peel_all(m, n, &locators, marks, sums);
-    let v = kernel(m, t, peeled);
-    let flags = candidates(m, n, marks, &v, t + 1, &locators);
-    correct(m, n, s.b, &locators, &flags, sums, word)
+    let places = Places::of(s.m, s.n);
+    let peeled = peel_all(&places, marks, sums);
+    let v = kernel(s.m, t, peeled);
+    let flags = places.candidates(marks, &v, t + 1);
+    correct(&places, s.b, &flags, sums, word)
 }
 
 // Corrects the received word in `out`, which is no codeword, to the one with 2e + f ≤ r, where there is one, and gives its figures.

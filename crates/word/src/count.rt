@@ -1,5 +1,5 @@
 // Document 01, "Word code": the figures of a decoded word. They count the unmarked places that changed, the marks, and the bits that changed.
-// They are inner calls of `correct`, whose callers check every setting first; what they ask is in their `requires`.
+// They are inner calls of `correct` and `look`, whose callers check every setting first; what they ask is in their `requires`.
 ghost use Rattle.std.specs.Prelude.{◌≡◌, ◌*◌, ◌≤◌, length, T};
 ghost use Rattle.std.specs.Int.Count.{ones};
 ghost use Rattle.algebra.specs.Xor.{◌⊕◌};

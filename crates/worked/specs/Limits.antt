@@ -1,6 +1,6 @@
 -- Document 01, "Worked table", Limits: of every call that takes such a setting, whatever else it is handed.
 -- Assumes nothing.
-use Rattle.std.specs.Prelude.{◌≡◌, refl, true, false, List, ◌≢◌, ℕ, zero, suc, ◌+◌, ◌*◌, ◌≤◌, T, length}
+use Rattle.std.specs.Prelude.{◌≡◌, refl, Result, Ok, Err, true, false, List, ◌≢◌, ℕ, zero, suc, ◌+◌, ◌*◌, ◌≤◌, T, length}
 use Rattle.std.proofs.Common.{sym, ap, ◌∙◌, arith, lit≤, lit<}
 use Rattle.std.proofs.Math.Option.{Option, some, none}
 use Rattle.std.proofs.Math.Nat.{mul-mod_left}
@@ -12,51 +12,49 @@ use Rattle.word.specs.Promises.{Encodes, Decodes, DecodesPart, encodes_once, dec
 use Rattle.word.specs.Refusals.{encode_setting, decode_setting, part_setting}
 use Rattle.word.specs.Met.{encode_refused, decode_refused, part_refused}
 use Rattle.word.specs.declared.Setting.{Setting}
-use Rattle.word.specs.declared.Encoded.{Encoded}
-use Rattle.word.specs.declared.Encoded.TheVariants as E
-use Rattle.word.specs.declared.Decoded.{Decoded}
-use Rattle.word.specs.declared.Decoded.TheVariants.{BadSetting}
+use Rattle.word.specs.declared.Figures.{Figures}
+use Rattle.word.specs.declared.InputError.{InputError}
+use Rattle.word.specs.declared.InputError.TheVariants as I
+use Rattle.word.specs.declared.DecodeError.{DecodeError}
+use Rattle.word.specs.declared.DecodeError.TheVariants.{BadSetting}
 use Rattle.algebra.specs.Refusal.{need, if_zero, need_yes, need_no, need_either}
 use Rattle.interleave.specs.Setting as line
 use Rattle.interleave.specs.Setting.{memory_size, line_at, line_refusal, receiver_refusal, receive_refusal}
-use Rattle.interleave.specs.Promises.{ready, fresh_sender, fresh_receiver, send_step, receive_step, send_run, receive_run, FreshSender, FreshReceiver, SendStep, SendRun, ReceiveStep, ReceiveRun}
+use Rattle.interleave.specs.Promises.{Ready, SentAnswer, ReceivedAnswer, fresh_sender, fresh_receiver, send_step, receive_step, send_run, receive_run, FreshSender, FreshReceiver, SendStep, SendRun, ReceiveStep, ReceiveRun}
 use Rattle.interleave.specs.Calls.{sender_fresh, receiver_fresh}
-use Rattle.interleave.specs.declared.line.Line.{Line}
-use Rattle.interleave.specs.declared.line.Ready.{Ready}
-use Rattle.interleave.specs.declared.line.Sent.{Sent}
-use Rattle.interleave.specs.declared.line.Received.{Received}
+use Rattle.interleave.specs.declared.line.LineError.TheVariants as L
 
--- no call of the word code answers 1
+-- no call of the word code answers BadSetting, the paper's 1
 pub record Stands (s : Setting) : Type 0 where
-  pub encode : (message held left : List ℕ) (d : Encoded) → Encodes s message held d left → d ≢ E.BadSetting
-  pub decode : (received marks map left left_map : List ℕ) (d : Decoded) → Decodes s received marks map d left left_map → d ≢ BadSetting
-  pub decode_part : (received marks part map left left_map : List ℕ) (d : Decoded) → DecodesPart s received marks part map d left left_map → d ≢ BadSetting
+  pub encode : (message held left : List ℕ) (d : Result Unit InputError) → Encodes s message held d left → d ≢ Err I.BadSetting
+  pub decode : (received marks map left left_map : List ℕ) (d : Result Figures DecodeError) → Decodes s received marks map d left left_map → d ≢ Err BadSetting
+  pub decode_part : (received marks part map left left_map : List ℕ) (d : Result Figures DecodeError) → DecodesPart s received marks part map d left left_map → d ≢ Err BadSetting
 
--- each answers 1 and leaves its buffer, and the map where it is lent one
+-- each answers BadSetting, the paper's 1, and leaves its buffer, and the map where it is lent one
 pub record Refused (s : Setting) : Type 0 where
-  pub encode : (message held left : List ℕ) (d : Encoded) → Encodes s message held d left → (d ≡ E.BadSetting) × (left ≡ held)
-  pub decode : (received marks map left left_map : List ℕ) (d : Decoded) → Decodes s received marks map d left left_map
-      → (d ≡ BadSetting) × (left ≡ received) × (left_map ≡ map)
-  pub decode_part : (received marks part map left left_map : List ℕ) (d : Decoded) → DecodesPart s received marks part map d left left_map
-      → (d ≡ BadSetting) × (left ≡ part) × (left_map ≡ map)
+  pub encode : (message held left : List ℕ) (d : Result Unit InputError) → Encodes s message held d left → (d ≡ Err I.BadSetting) × (left ≡ held)
+  pub decode : (received marks map left left_map : List ℕ) (d : Result Figures DecodeError) → Decodes s received marks map d left left_map
+      → (d ≡ Err BadSetting) × (left ≡ received) × (left_map ≡ map)
+  pub decode_part : (received marks part map left left_map : List ℕ) (d : Result Figures DecodeError) → DecodesPart s received marks part map d left left_map
+      → (d ≡ Err BadSetting) × (left ≡ part) × (left_map ≡ map)
 
 -- a delay line can be made fresh, in memories of its length
 pub record LineStands (I M n : ℕ) : Type 0 where
-  pub sender : (held left : List ℕ) (r : Ready) → length held ≡ memory_size I M → FreshSender I M n held r left → r.answer ≡ 0
+  pub sender : (held left : List ℕ) (r : Ready) → length held ≡ memory_size I M → FreshSender I M n held r left → r ≡ Ok (line_at I M n 0)
   pub receiver : (held marks left left_marks : List ℕ) (r : Ready) → length held ≡ memory_size I M → length marks ≡ length held
-      → FreshReceiver I M n held marks r left left_marks → r.answer ≡ 0
+      → FreshReceiver I M n held marks r left left_marks → r ≡ Ok (line_at I M n 0)
 
--- each call on it answers 1 and leaves what was lent, whatever its position
+-- each call on it answers BadSetting, the paper's 1, and leaves what was lent, whatever its position
 pub record LineRefused (I M n : ℕ) : Type 0 where
-  pub fresh_sender_lem : (m left : List ℕ) (r : Ready) → FreshSender I M n m r left → (r.answer ≡ 1) × (left ≡ m)
-  pub fresh_receiver_lem : (m ms left left_marks : List ℕ) (r : Ready) → FreshReceiver I M n m ms r left left_marks → (r.answer ≡ 1) × (left ≡ m) × (left_marks ≡ ms)
-  pub send_step_lem : (p b : ℕ) (m left : List ℕ) (r : Sent) → SendStep (line_at I M n p) m b r left → (r.answer ≡ 1) × (left ≡ m)
-  pub receive_step_lem : (p b k : ℕ) (m ms left left_marks : List ℕ) (r : Received) → ReceiveStep (line_at I M n p) m ms b k r left left_marks
-      → (r.answer ≡ 1) × (left ≡ m) × (left_marks ≡ ms)
-  pub send_run_lem : (p : ℕ) (m bs left out : List ℕ) (r : Ready) → SendRun (line_at I M n p) m bs r left out → (r.answer ≡ 1) × (left ≡ m) × (out ≡ bs)
+  pub fresh_sender_lem : (m left : List ℕ) (r : Ready) → FreshSender I M n m r left → (r ≡ Err L.BadSetting) × (left ≡ m)
+  pub fresh_receiver_lem : (m ms left left_marks : List ℕ) (r : Ready) → FreshReceiver I M n m ms r left left_marks → (r ≡ Err L.BadSetting) × (left ≡ m) × (left_marks ≡ ms)
+  pub send_step_lem : (p b : ℕ) (m left : List ℕ) (r : SentAnswer) → SendStep (line_at I M n p) m b r left → (r ≡ Err L.BadSetting) × (left ≡ m)
+  pub receive_step_lem : (p b k : ℕ) (m ms left left_marks : List ℕ) (r : ReceivedAnswer) → ReceiveStep (line_at I M n p) m ms b k r left left_marks
+      → (r ≡ Err L.BadSetting) × (left ≡ m) × (left_marks ≡ ms)
+  pub send_run_lem : (p : ℕ) (m bs left out : List ℕ) (r : Ready) → SendRun (line_at I M n p) m bs r left out → (r ≡ Err L.BadSetting) × (left ≡ m) × (out ≡ bs)
   pub receive_run_lem : (p : ℕ) (m ms bs ks left left_marks out out_marks : List ℕ) (r : Ready)
       → ReceiveRun (line_at I M n p) m ms bs ks r left left_marks out out_marks
-      → (r.answer ≡ 1) × (left ≡ m) × (left_marks ≡ ms) × (out ≡ bs) × (out_marks ≡ ks)
+      → (r ≡ Err L.BadSetting) × (left ≡ m) × (left_marks ≡ ms) × (out ≡ bs) × (out_marks ≡ ks)
 
 abbrev pub setting : (m n r b : ℕ) → Setting
 setting m n r b = record { m = m; n = n; r = r; b = b }
@@ -129,11 +127,11 @@ refused : (s : Setting) → (Allowed s → ⊥) → Refused s
 refused s h =
     let a : allowed s ≡ false = sym (allowed_no s h) in
     record {
-      encode = λ message held left d p. encodes_once p (encode_refused s message held 1 E.BadSetting (encode_setting s message held a) (lit≤ tt) refl);
+      encode = λ message held left d p. encodes_once p (encode_refused s message held 1 (Err I.BadSetting) (encode_setting s message held a) (lit≤ tt) refl);
       decode = λ received marks map left left_map d p. decodes_once p
-          (decode_refused s received marks map 1 BadSetting (decode_setting s received marks map a) (lit≤ tt) (record { number = refl; none = refl }));
+          (decode_refused s received marks map 1 (Err BadSetting) (decode_setting s received marks map a) (lit≤ tt) (record { number = refl; none = refl }));
       decode_part = λ received marks part map left left_map d p. decodes_part_once p
-          (part_refused s received marks part map 1 BadSetting (part_setting s received marks part map a) (lit≤ tt) (record { number = refl; none = refl }));
+          (part_refused s received marks part map 1 (Err BadSetting) (part_setting s received marks part map a) (lit≤ tt) (record { number = refl; none = refl }));
     }
 
 -- ---- laws: the delay line
@@ -142,9 +140,9 @@ line_no : (I M n p size : ℕ) → M * I + I ≡ n → line_refusal (line_at I M
 unfolding line_refusal
 line_no I M n p size e = sym (need_no _ 1 _ λ a. omega (arith, a.setting.room, a.setting.branches.0))
 
-refused_three : (r : Ready) (x u : List ℕ) (l : Line) (y v : List ℕ) → ◌≡◌ {A = Ready × List ℕ × List ℕ} (r, x, u) (ready 1 l, y, v) → (r.answer ≡ 1) × (x ≡ y) × (u ≡ v)
-refused_three r x u l y v e =
-    (ap (λ (z : Ready × List ℕ × List ℕ). z.0.answer) e, ap (λ (z : Ready × List ℕ × List ℕ). z.1) e, ap (λ (z : Ready × List ℕ × List ℕ). z.2) e)
+refused_three : (r : Ready) (x u : List ℕ) (y v : List ℕ) → ◌≡◌ {A = Ready × List ℕ × List ℕ} (r, x, u) (Err L.BadSetting, y, v) → (r ≡ Err L.BadSetting) × (x ≡ y) × (u ≡ v)
+refused_three r x u y v e =
+    (ap (λ (z : Ready × List ℕ × List ℕ). z.0) e, ap (λ (z : Ready × List ℕ × List ℕ). z.1) e, ap (λ (z : Ready × List ℕ × List ℕ). z.2) e)
 
 abbrev RunGiven : Type 0
 RunGiven = Ready × List ℕ × List ℕ × List ℕ × List ℕ
@@ -160,24 +158,24 @@ limits = record {
   line_stands = λ I M n branches unit size e.
       let t : line.Setting I M n = record { branches = branches; unit = unit; size = size; whole = rw (← e) (mul-mod_left M I); room = omega arith } in
       record {
-        sender = λ held left r k p. ap (λ (z : Ready). z.answer) (sender_fresh I M n t held r left k p).0;
-        receiver = λ held marks left left_marks r k g p. ap (λ (z : Ready). z.answer) (receiver_fresh I M n t held marks r left left_marks k (g ∙ k) p).0;
+        sender = λ held left r k p. (sender_fresh I M n t held r left k p).0;
+        receiver = λ held marks left left_marks r k g p. (receiver_fresh I M n t held marks r left left_marks k (g ∙ k) p).0;
       };
   line_refused = λ I M n e. record {
     fresh_sender_lem = λ m left r p.
         let q = rw (line_no I M n 0 (length m) e) at p.outcome in
-        (ap (λ (z : Ready × List ℕ). z.0.answer) q, ap (λ (z : Ready × List ℕ). z.1) q);
-    fresh_receiver_lem = λ m ms left left_marks r p. refused_three r left left_marks (line_at I M n 0) m ms (rw (line_no I M n 0 (length m) e) at p.outcome);
+        (ap (λ (z : Ready × List ℕ). z.0) q, ap (λ (z : Ready × List ℕ). z.1) q);
+    fresh_receiver_lem = λ m ms left left_marks r p. refused_three r left left_marks m ms (rw (line_no I M n 0 (length m) e) at p.outcome);
     send_step_lem = λ p b m left r q.
         let g = rw (line_no I M n p (length m) e) at q.outcome in
-        (ap (λ (z : Sent × List ℕ). z.0.answer) g, ap (λ (z : Sent × List ℕ). z.1) g);
+        (ap (λ (z : SentAnswer × List ℕ). z.0) g, ap (λ (z : SentAnswer × List ℕ). z.1) g);
     receive_step_lem = λ p b k m ms left left_marks r q.
         let g = rw (line_no I M n p (length m) e) at q.outcome in
-        (ap (λ (z : Received × List ℕ × List ℕ). z.0.answer) g, ap (λ (z : Received × List ℕ × List ℕ). z.1) g, ap (λ (z : Received × List ℕ × List ℕ). z.2) g);
-    send_run_lem = λ p m bs left out r q. refused_three r left out (line_at I M n p) m bs (rw (line_no I M n p (length m) e) at q.outcome);
+        (ap (λ (z : ReceivedAnswer × List ℕ × List ℕ). z.0) g, ap (λ (z : ReceivedAnswer × List ℕ × List ℕ). z.1) g, ap (λ (z : ReceivedAnswer × List ℕ × List ℕ). z.2) g);
+    send_run_lem = λ p m bs left out r q. refused_three r left out m bs (rw (line_no I M n p (length m) e) at q.outcome);
     receive_run_lem = λ p m ms bs ks left left_marks out out_marks r q.
         let g = rw (line_no I M n p (length m) e) at q.outcome in
-        (ap (λ (z : RunGiven). z.0.answer) g, ap (λ (z : RunGiven). z.1) g, ap (λ (z : RunGiven). z.2) g, ap (λ (z : RunGiven). z.3) g, ap (λ (z : RunGiven). z.4) g);
+        (ap (λ (z : RunGiven). z.0) g, ap (λ (z : RunGiven). z.1) g, ap (λ (z : RunGiven). z.2) g, ap (λ (z : RunGiven). z.3) g, ap (λ (z : RunGiven). z.4) g);
   };
 }
 

@@ -4,7 +4,7 @@ use Rattle.std.specs.Prelude.{◌≡◌, true, false, List, ℕ, ◌*◌, T, len
 use Rattle.std.proofs.Common.{ap, ◌∙◌}
 use Rattle.algebra.specs.Tests.{below}
 use Rattle.algebra.specs.Lists.{tabulate}
-use Rattle.interleave.specs.Block.{BlockSetting, spread, spreading, block_done}
+use Rattle.interleave.specs.Block.{Given, BlockSetting, spread, spreading, block_done}
 use Rattle.interleave.specs.Line.{sent, received}
 use Rattle.interleave.specs.Setting.{Setting}
 use Rattle.interleave.specs.Calls.{send_runs, receive_runs, sender_fresh, receiver_fresh, sender_starts, receiver_starts, fresh_run}
@@ -14,7 +14,7 @@ pub spreads : (J n : ℕ) (words : List ℕ) → BlockSetting J n → length wor
 unfolding spreading
 spreads J n words fits e held left r k p =
     let g = rw (block_done J n (length words) (length held) (record { setting = fits; from = e; to = k })) at p.outcome in
-    (ap (λ (z : ℕ × List ℕ). z.0) g, ap (λ (z : ℕ × List ℕ). z.1) g)
+    (ap (λ (z : Given). z.0) g, ap (λ (z : Given). z.1) g)
 
 module _ (I M n : ℕ) (t : Setting I M n) where
   pub sends : (bytes : List ℕ) → SendsTo I M n bytes (tabulate (length bytes) (sent I M (λ v. get_or bytes v 0)))

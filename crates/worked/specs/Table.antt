@@ -1,7 +1,7 @@
 -- Document 01, "Worked table": P1 to P13 under one claim, `worked_table`. Each item is what every answer of the call is that meets its
 -- promise (`specs/Gives.antt`). The program of this crate runs the same items. The maps are those of document 02, No. 6.
 -- Assumes nothing.
-use Rattle.std.specs.Prelude.{refl, [], ◌∷◌, T}
+use Rattle.std.specs.Prelude.{refl, Ok, Err, [], ◌∷◌, T}
 use Rattle.std.proofs.Math.Decide.{ℕ_discrete}
 use Rattle.std.specs.Int.Count.{ones, ones_in}
 use Rattle.std.proofs.Common.{lit≤, lit<}
@@ -11,7 +11,6 @@ use Rattle.algebra.specs.Lists.{tabulate}
 use Rattle.field.specs.Field.{times, reduce, product, power}
 use Rattle.field.specs.Answers.{is_field, is_element, product_of}
 use Rattle.field.specs.Once.{product_once}
-use Rattle.field.specs.declared.Element.TheVariants.{Is}
 use Rattle.word.specs.Setting.{allowed}
 use Rattle.word.specs.Word.{value_from, error_of, errors, marked, bits}
 use Rattle.word.specs.Map.{change_of, changes}
@@ -20,7 +19,7 @@ use Rattle.algebra.specs.Sets.{put}
 use Rattle.algebra.specs.Refusal.{need}
 use Rattle.word.specs.Answers.{decode_refusal}
 use Rattle.word.specs.declared.Setting.{Setting}
-use Rattle.word.specs.declared.Decoded.TheVariants.{BeyondReach}
+use Rattle.word.specs.declared.DecodeError.TheVariants.{BeyondReach}
 use Rattle.rings.specs.Rings.{ring, tri}
 use Rattle.rings.specs.Delay.{answer, memory, position, line_out, line_kept}
 use Rattle.interleave.specs.Block.{transposed}
@@ -56,9 +55,9 @@ pub record WorkedTable : Type 0 where
   -- S: 0,0,2 marked 1,1,0 gives 1,3,2, f 2, e 0, bits 3; map 1,1,0
   pub p8 : DecodesTo code_s (0 ∷ 0 ∷ 2 ∷ []) (1 ∷ 1 ∷ 0 ∷ []) (accepted 0 2 3) (1 ∷ 3 ∷ 2 ∷ []) (1 ∷ 1 ∷ 0 ∷ [])
   -- S: 0,1,2 unmarked is refused, 4; map 0,0,0
-  pub p9 : DecodesTo code_s (0 ∷ 1 ∷ 2 ∷ []) (0 ∷ 0 ∷ 0 ∷ []) BeyondReach (0 ∷ 1 ∷ 2 ∷ []) (0 ∷ 0 ∷ 0 ∷ [])
+  pub p9 : DecodesTo code_s (0 ∷ 1 ∷ 2 ∷ []) (0 ∷ 0 ∷ 0 ∷ []) (Err BeyondReach) (0 ∷ 1 ∷ 2 ∷ []) (0 ∷ 0 ∷ 0 ∷ [])
   -- S: 1,3,2 marked 1,1,1 is refused, 4; map 0,0,0
-  pub p10 : DecodesTo code_s (1 ∷ 3 ∷ 2 ∷ []) (1 ∷ 1 ∷ 1 ∷ []) BeyondReach (1 ∷ 3 ∷ 2 ∷ []) (0 ∷ 0 ∷ 0 ∷ [])
+  pub p10 : DecodesTo code_s (1 ∷ 3 ∷ 2 ∷ []) (1 ∷ 1 ∷ 1 ∷ []) (Err BeyondReach) (1 ∷ 3 ∷ 2 ∷ []) (0 ∷ 0 ∷ 0 ∷ [])
   -- J = 2, words 1,3,2 and 2,6,4: slots 1,2,3,6,2,4
   pub p11 : SpreadsTo 2 3 (1 ∷ 3 ∷ 2 ∷ 2 ∷ 6 ∷ 4 ∷ []) (1 ∷ 2 ∷ 3 ∷ 6 ∷ 2 ∷ 4 ∷ [])
   -- I = 2, M = 2, bytes 1 to 8: out 1,0,3,0,5,2,7,4. Fed to the receiver: 0,0,0,0,1,2,3,4, marks 1,0,1,0,0,0,0,0. (4 is the one n that fits.)
@@ -81,8 +80,8 @@ line224 = record { branches = (lit≤ tt, lit≤ tt); unit = (lit≤ tt, lit≤ 
 pub worked_table : WorkedTable
 unfolding product_of is_element need put ℕ_discrete decode_refusal allowed is_field below qualifies is_codeword each value_from error_of errors marked bits change_of changes total ones ones_in ◌⊕◌ times reduce product power transposed tabulate answer memory position line_out line_kept ring tri period common compared
 worked_table = record {
-  p1 = λ r e. product_once 3 2 5 r (Is 1) e refl;
-  p2 = λ r e. product_once 8 128 2 r (Is 29) e refl;
+  p1 = λ r e. product_once 3 2 5 r (Ok 1) e refl;
+  p2 = λ r e. product_once 8 128 2 r (Ok 29) e refl;
   p3 = made code002 (7 ∷ 3 ∷ 2 ∷ []) (5 ∷ 6 ∷ 4 ∷ 1 ∷ []) allowed002 refl tt tt;
   p4 = found code002 (7 ∷ 3 ∷ 5 ∷ 1 ∷ 6 ∷ 4 ∷ 1 ∷ []) (0 ∷ 0 ∷ 0 ∷ 0 ∷ 0 ∷ 0 ∷ 0 ∷ []) refl (7 ∷ 3 ∷ 2 ∷ 5 ∷ 6 ∷ 4 ∷ 1 ∷ []) tt;
   p5 = made code_s (1 ∷ []) (3 ∷ 2 ∷ []) allowed_s refl tt tt;

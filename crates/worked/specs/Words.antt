@@ -1,6 +1,6 @@
 -- A word that passes the tests of the word code is what the calls answer. The worked table then has only the tests to compute.
 -- Assumes nothing.
-use Rattle.std.specs.Prelude.{◌≡◌, refl, List, ◌++◌, ℕ, ◌^◌, T, length}
+use Rattle.std.specs.Prelude.{◌≡◌, refl, Ok, Err, List, ◌++◌, ℕ, ◌^◌, T, length}
 use Rattle.algebra.specs.Tests.{below}
 use Rattle.word.specs.Setting.{allowed, message_size}
 use Rattle.word.specs.Codeword.{is_codeword, qualifies}
@@ -11,7 +11,7 @@ use Rattle.word.specs.Promises.{decodes_once, encodes_once}
 use Rattle.word.specs.Refusals.{Checked, checked}
 use Rattle.word.specs.Met.{encode_done, decode_found, decode_lost}
 use Rattle.word.specs.declared.Setting.{Setting}
-use Rattle.word.specs.declared.Decoded.TheVariants.{Done, BeyondReach}
+use Rattle.word.specs.declared.DecodeError.TheVariants.{BeyondReach}
 use Rattle.worked.specs.Gives.{EncodesTo, DecodesTo}
 
 pub made : (s : Setting) (message checks : List ℕ) → T (allowed s) → length message ≡ message_size s → T (below (2 ^ s.m) message)
@@ -24,10 +24,10 @@ module _ (s : Setting) (received marks : List ℕ) (e : decode_refusal s receive
   given : Checked s marks received
   given = (checked s received marks (unchanged received) e).1
 
-  pub found : (word : List ℕ) → T (qualifies s marks received word) → DecodesTo s received marks (Done (figures marks received word)) word (changes received word)
+  pub found : (word : List ℕ) → T (qualifies s marks received word) → DecodesTo s received marks (Ok (figures marks received word)) word (changes received word)
   found word q held left left_map d l p =
       let only = corrected_only s given.setting marks received given.size word q in
       decodes_once p (decode_found s received marks held l given word (figures marks received word) (changes received word) only refl refl)
 
-  pub lost : ((word : List ℕ) → T (qualifies s marks received word) → ⊥) → DecodesTo s received marks BeyondReach received (unchanged received)
+  pub lost : ((word : List ℕ) → T (qualifies s marks received word) → ⊥) → DecodesTo s received marks (Err BeyondReach) received (unchanged received)
   lost none held left left_map d l p = decodes_once p (decode_lost s received marks held l given (unchanged received) (corrected_none s marks received none) refl)

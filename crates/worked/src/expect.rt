@@ -1,18 +1,10 @@
 // Calls of the word code held to the answer that the paper gives.
 ghost use Rattle.std.specs.Prelude.{◌≤◌, length};
 
-use check::same;
-use word::numbers::{encoded_number, figures_of, number_of};
-use word::{Decoded, Setting};
+use word::{DecodeError, Figures, InputError, Setting};
 
-// What the paper says of a received word: the number answered, with e, f and bits.
-#[derive(Clone, Copy)]
-pub struct Outcome {
-    pub number: u8,
-    pub errors: u16,
-    pub marked: u16,
-    pub bits: u16,
-}
+// What the paper says of a received word: e, f and bits, or why it is refused.
+pub type Outcome = Result<Figures, DecodeError>;
 
 // How many symbols of a word, of its marks and of the room for its map a call is lent.
 #[derive(Clone, Copy)]
@@ -24,65 +16,27 @@ pub struct Lent {
 
 // A setting of the word code, in the paper's order.
 pub fn setting(m: usize, n: usize, r: usize, b: usize) -> Setting {
-    Setting {
-        m: m,
-        n: n,
-        r: r,
-        b: b,
-    }
+    Setting { m, n, r, b }
 }
 
 // Accepted, with e, f and bits.
-pub fn done(e: u16, f: u16, bits: u16) -> Outcome {
-    Outcome {
-        number: 0,
-        errors: e,
-        marked: f,
-        bits: bits,
-    }
+pub fn done(errors: u16, marked: u16, bits: u16) -> Outcome {
+    Ok(Figures {
+        errors,
+        marked,
+        bits,
+    })
 }
 
-// Refused with this number; the figures are then 0.
-pub fn refused(number: u8) -> Outcome {
-    Outcome {
-        number: number,
-        errors: 0,
-        marked: 0,
-        bits: 0,
-    }
-}
-
-// The paper's number and figures for what decoding answers.
-fn found(answer: Decoded) -> Outcome {
-    let figures = figures_of(answer);
-    Outcome {
-        number: number_of(answer),
-        errors: figures.errors,
-        marked: figures.marked,
-        bits: figures.bits,
-    }
-}
-
-// Whether two outcomes are the same.
-fn agrees(a: Outcome, b: Outcome) -> bool {
-    if a.number != b.number {
-        return false;
-    }
-    if a.errors != b.errors {
-        return false;
-    }
-    if a.marked != b.marked {
-        return false;
-    }
-    a.bits == b.bits
-}
-
-// Whether encoding answers this number and leaves these symbols in the word.
-pub fn encodes(s: Setting, message: &[u8], symbols: &mut [u8], number: u8, after: &[u8]) -> bool {
-    if encoded_number(word::encode(s, message, symbols)) != number {
-        return false;
-    }
-    same(symbols, after)
+// Whether encoding answers this and leaves these symbols in the word.
+pub fn encodes(
+    s: Setting,
+    message: &[u8],
+    symbols: &mut [u8],
+    wanted: Result<(), InputError>,
+    after: &[u8],
+) -> bool {
+    word::encode(s, message, symbols) == wanted && &*symbols == after
 }
 
 // Whether decoding has this outcome, and leaves these symbols in the word and this map.
@@ -95,10 +49,7 @@ pub fn decodes(
     after: &[u8],
     changed: &[u8],
 ) -> bool {
-    if !agrees(found(word::decode(s, symbols, marks, map)), wanted) {
-        return false;
-    }
-    both_same(symbols, after, map, changed)
+    word::decode(s, symbols, marks, map) == wanted && &*symbols == after && &*map == changed
 }
 
 // Whether decoding into a part has this outcome, and leaves these symbols in the part and this map.
@@ -112,45 +63,31 @@ pub fn decodes_part(
     after: &[u8],
     changed: &[u8],
 ) -> bool {
-    if !agrees(
-        found(word::decode_part(s, symbols, marks, part, map)),
-        wanted,
-    ) {
-        return false;
-    }
-    both_same(part, after, map, changed)
+    word::decode_part(s, symbols, marks, part, map) == wanted && &*part == after && &*map == changed
 }
 
-// Whether a is b, and c is d.
-fn both_same(a: &[u8], b: &[u8], c: &[u8], d: &[u8]) -> bool {
-    if !same(a, b) {
-        return false;
-    }
-    same(c, d)
-}
-
-// `encodes` with the first k symbols of a message and the first n of a word.
-pub fn encodes_front(
+// Whether the first k symbols of a message are refused so by a check for the first n of a word, which then stays as it was.
+pub fn refuses_message(
     s: Setting,
     message: &[u8],
     k: usize,
     symbols: &mut [u8],
     n: usize,
-    number: u8,
+    why: InputError,
     after: &[u8],
 ) -> bool
     requires { (k ≤ length message.now) × (n ≤ length symbols.old) × (n ≤ length after.now) }
 {
-    encodes(s, &message[..k], &mut symbols[..n], number, &after[..n])
+    encodes(s, &message[..k], &mut symbols[..n], Err(why), &after[..n])
 }
 
-// Whether the first symbols of a word, with the first of its marks, are refused with this number by a check: the map then stays as the word does.
-pub fn refuses_front(
+// Whether the first symbols of a word, with the first of its marks, are refused so by a check: the map then stays as the word does.
+pub fn refuses_word(
     s: Setting,
     lent: Lent,
     symbols: &mut [u8],
     marks: &[u8],
-    number: u8,
+    why: InputError,
     after: &[u8],
 ) -> bool
     requires { (lent.word ≤ length symbols.old) × (lent.marks ≤ length marks.now) × (lent.map ≤ 256) × (lent.word ≤ length after.now) }
@@ -162,7 +99,7 @@ pub fn refuses_front(
         &mut symbols[..lent.word],
         &marks[..lent.marks],
         &mut map[..lent.map],
-        refused(number),
+        Err(why.into()),
         &after[..lent.word],
         &old[..lent.map],
     )

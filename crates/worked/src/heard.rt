@@ -5,40 +5,20 @@ use record::{Kind, Record};
 fn heard(last: u16) -> Record {
     Record {
         accepted: true,
-        last: last,
+        last,
         newer: 1,
-        repeat: 0,
-        older: 0,
-        refused: 0,
-        late: 0,
-        seen: 0,
+        ..record::fresh()
     }
 }
 
 // Whether an accepted frame is newer: it is counted as that, and is the last number from then on.
 pub fn is_newer(last: u16, new: u16) -> bool {
     let after = record::note(heard(last), 0, new);
-    if after.last != new {
-        return false;
-    }
-    match record::standing_of(heard(last), new) {
-        Kind::Newer => after.newer == 2,
-        Kind::Repeat => false,
-        Kind::Older => false,
-        Kind::Late => false,
-    }
+    record::standing_of(heard(last), new) == Kind::Newer && after.last == new && after.newer == 2
 }
 
 // Whether an accepted frame is older: it is counted as that, and leaves the last number.
 pub fn is_older(last: u16, new: u16) -> bool {
     let after = record::note(heard(last), 0, new);
-    if after.last != last {
-        return false;
-    }
-    match record::standing_of(heard(last), new) {
-        Kind::Newer => false,
-        Kind::Repeat => false,
-        Kind::Older => after.older == 1,
-        Kind::Late => false,
-    }
+    record::standing_of(heard(last), new) == Kind::Older && after.last == last && after.older == 1
 }

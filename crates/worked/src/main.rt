@@ -12,12 +12,14 @@ mod say;
 mod slots;
 mod table;
 
-fn main() {
-    table::say_code();
-    table::say_link();
-    limits::say_settings();
-    limits::say_words();
-    limits::say_messages();
-    reach::say_reach();
-    late::say_late();
+use std::io;
+
+fn main(rt: HostRuntime) -> io::Result<()> {
+    table::say_code(&rt)?;
+    table::say_link(&rt)?;
+    limits::say_settings(&rt)?;
+    limits::say_words(&rt)?;
+    limits::say_messages(&rt)?;
+    reach::say_reach(&rt)?;
+    late::say_late(&rt)
 }

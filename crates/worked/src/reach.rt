@@ -1,49 +1,57 @@
 // How far the decoder reaches in the longest word with the most check symbols: n = 255, r = 16.
 ghost use Rattle.std.specs.Prelude.{◌≡◌, ◌≤◌, length};
 
-use crate::expect::{Outcome, decodes, decodes_part, done, refused, setting};
+use crate::expect::{Outcome, decodes, decodes_part, done, setting};
 use crate::say::say;
-use word::Setting;
+use std::io;
+use word::{DecodeError, Setting};
 
 // What that word bears.
-pub fn say_reach() {
+pub fn say_reach(rt: &impl Print) -> io::Result<()> {
     // Catches a setting of 255 that is refused, and a codeword that is changed.
     say(
-        b"n 255 stands",
+        rt,
+        "n 255 stands",
         word_answers(0, 0, done(0, 0, 0), sent(), [0; 255]),
-    );
+    )?;
     // Catches a decoder that stops short of r / 2 wrong symbols, check symbols among them.
     say(
-        b"8 wrong come back",
+        rt,
+        "8 wrong come back",
         word_answers(8, 0, done(8, 0, 24), sent(), marked(8)),
-    );
+    )?;
     // Catches a word beyond reach that is accepted, or written before it is refused. No codeword is within 8 places of this one.
     say(
-        b"9 wrong refused 4",
-        word_answers(9, 0, refused(4), received(9), [0; 255]),
-    );
+        rt,
+        "9 wrong refused 4",
+        word_answers(9, 0, Err(DecodeError::BeyondReach), received(9), [0; 255]),
+    )?;
     // Catches a decoder that stops short of r marked symbols.
     say(
-        b"16 marked come back",
+        rt,
+        "16 marked come back",
         word_answers(16, 16, done(0, 16, 48), sent(), marked(16)),
-    );
+    )?;
     // Catches a map that has every mark: half of the marked symbols are right here.
     say(
-        b"right marks not mapped",
+        rt,
+        "right marks not mapped",
         word_answers(8, 16, done(0, 16, 24), sent(), marked(8)),
-    );
+    )?;
     // Catches a part that gets anything but the corrected word's message.
     say(
-        b"part gets the message",
+        rt,
+        "part gets the message",
         part_answers(8, done(8, 0, 24), message(), marked(8)),
-    );
+    )?;
     // Catches a part that is written though the word is refused.
     say(
-        b"part refused 4 stays",
-        part_answers(9, refused(4), [9; 239], [0; 255]),
-    );
+        rt,
+        "part refused 4 stays",
+        part_answers(9, Err(DecodeError::BeyondReach), [9; 239], [0; 255]),
+    )?;
     // Catches a part that is not of k symbols and is filled in front, or beyond its end.
-    say(b"short part refused 2", short_part());
+    say(rt, "short part refused 2", short_part())
 }
 
 fn longest() -> Setting {
@@ -51,38 +59,29 @@ fn longest() -> Setting {
 }
 
 // A message that has no symbol twice: symbol i is i.
-fn message() -> [u8; 239]
-    ensures { 239 ≡ length result }
-{
+fn message() -> [u8; 239] {
     let mut symbols = [0u8; 239];
-    let mut i = 0;
-    while i < 239 {
-        symbols[i] = i as u8;
-        i += 1;
+    for (i, symbol) in symbols.iter_mut().enumerate() {
+        *symbol = i as u8;
     }
     symbols
 }
 
 // The codeword of that message.
-fn sent() -> [u8; 255]
-    ensures { 255 ≡ length result }
-{
+fn sent() -> [u8; 255] {
     let message = message();
     let mut symbols = [0u8; 255];
-    word::encode(longest(), &message, &mut symbols);
+    let _ = word::encode(longest(), &message, &mut symbols);
     symbols
 }
 
 // The word with x added at `count` places, each 15 before the next, the last of them the word's last.
 fn struck(word: [u8; 255], count: usize, x: u8) -> [u8; 255]
     requires { count ≤ 16 }
-    ensures { 255 ≡ length result }
 {
     let mut symbols = word;
-    let mut i = 0;
-    while i < count {
+    for i in 0..count {
         symbols[254 - 15 * i] ^= x;
-        i += 1;
     }
     symbols
 }
@@ -90,7 +89,6 @@ fn struck(word: [u8; 255], count: usize, x: u8) -> [u8; 255]
 // The codeword with so many wrong symbols, three bits in each.
 fn received(count: usize) -> [u8; 255]
     requires { count ≤ 16 }
-    ensures { 255 ≡ length result }
 {
     struck(sent(), count, 7)
 }
@@ -98,7 +96,6 @@ fn received(count: usize) -> [u8; 255]
 // Marks at the same places.
 fn marked(count: usize) -> [u8; 255]
     requires { count ≤ 16 }
-    ensures { 255 ≡ length result }
 {
     struck([0; 255], count, 1)
 }
@@ -160,7 +157,7 @@ fn short_part() -> bool {
         &marks,
         &mut part,
         &mut map,
-        refused(2),
+        Err(DecodeError::BadLength),
         &after,
         &old,
     )

@@ -1,68 +1,80 @@
 // The worked table, P1 to P13, run through the calls.
-use crate::expect::{Outcome, decodes, done, encodes, refused, setting};
+use crate::expect::{Outcome, decodes, done, encodes, setting};
 use crate::heard::{is_newer, is_older};
 use crate::say::say_item;
 use crate::slots::comes_back;
-use check::same;
-use field::Element;
-use word::Setting;
+use std::io;
+use word::{DecodeError, Setting};
 
 // The items of the field and of the word code.
-pub fn say_code() {
+pub fn say_code(rt: &impl Print) -> io::Result<()> {
     // Catches a product at m = 3 that is not reduced by 11.
-    say_item(1, multiplies(3, 2, 5, 1));
+    say_item(rt, 1, multiplies(3, 2, 5, 1))?;
     // Catches a product at m = 8 that is not reduced by 285.
-    say_item(2, multiplies(8, 128, 2, 29));
+    say_item(rt, 2, multiplies(8, 128, 2, 29))?;
     // Catches symbols in 002's order, lowest power first, and roots from a^0 where b = 1.
-    say_item(3, encodes_example());
+    say_item(rt, 3, encodes_example())?;
     // Catches a decoder that mends one wrong symbol only, bits counted as symbols, and a map in another order than the word.
-    say_item(4, mends_example());
+    say_item(rt, 4, mends_example())?;
     // Catches roots from a^1 where b = 0.
-    say_item(5, encodes_s());
+    say_item(rt, 5, encodes_s())?;
     // Catches an error in the first place, the highest power, that is put elsewhere.
     say_item(
+        rt,
         6,
         decodes_s([0, 3, 2], [0, 0, 0], done(1, 0, 1), [1, 3, 2], [1, 0, 0]),
-    );
+    )?;
     // Catches a wrong check symbol that is left as it came, or not mapped.
     say_item(
+        rt,
         7,
         decodes_s([0, 0, 2], [0, 0, 0], done(1, 0, 1), [0, 0, 0], [0, 0, 1]),
-    );
+    )?;
     // Catches marks that are not used: the word of P7, with marks, is another codeword's. Catches a map of unmarked changes only.
     say_item(
+        rt,
         8,
         decodes_s([0, 0, 2], [1, 1, 0], done(0, 2, 3), [1, 3, 2], [1, 1, 0]),
-    );
+    )?;
     // Catches an error place beyond n of a shortened word, a refused word that is written, and its map that is left as it was.
     say_item(
+        rt,
         9,
-        decodes_s([0, 1, 2], [0, 0, 0], refused(4), [0, 1, 2], [0, 0, 0]),
-    );
+        decodes_s(
+            [0, 1, 2],
+            [0, 0, 0],
+            Err(DecodeError::BeyondReach),
+            [0, 1, 2],
+            [0, 0, 0],
+        ),
+    )?;
     // Catches a marked symbol counted as free because it was right: three marks are more than r. Catches a map of the marks.
     say_item(
+        rt,
         10,
-        decodes_s([1, 3, 2], [1, 1, 1], refused(4), [1, 3, 2], [0, 0, 0]),
-    );
+        decodes_s(
+            [1, 3, 2],
+            [1, 1, 1],
+            Err(DecodeError::BeyondReach),
+            [1, 3, 2],
+            [0, 0, 0],
+        ),
+    )
 }
 
 // The items of the interleavers and of the record.
-pub fn say_link() {
+pub fn say_link(rt: &impl Print) -> io::Result<()> {
     // Catches an interleaver that copies, and one that sends columns.
-    say_item(11, spreads());
+    say_item(rt, 11, spreads())?;
     // Catches a branch that holds back too long or not at all, and a fresh receiver whose bytes are not marked.
-    say_item(12, comes_back());
+    say_item(rt, 12, comes_back())?;
     // Catches newer decided by plain comparison.
-    say_item(13, newer_by_difference());
+    say_item(rt, 13, newer_by_difference())
 }
 
 // Whether a product is z.
 fn multiplies(m: usize, x: u8, y: u8, z: u8) -> bool {
-    match field::product(m, x, y) {
-        Element::Is(xy) => xy == z,
-        Element::BadField => false,
-        Element::BadSymbol => false,
-    }
+    field::product(m, x, y) == Ok(z)
 }
 
 // The example of 002.
@@ -79,7 +91,7 @@ fn encodes_example() -> bool {
     let message = [7u8, 3, 2];
     let mut symbols = [0u8; 7];
     let after = [7u8, 3, 2, 5, 6, 4, 1];
-    encodes(example(), &message, &mut symbols, 0, &after)
+    encodes(example(), &message, &mut symbols, Ok(()), &after)
 }
 
 fn mends_example() -> bool {
@@ -103,7 +115,7 @@ fn encodes_s() -> bool {
     let message = [1u8];
     let mut symbols = [0u8; 3];
     let after = [1u8, 3, 2];
-    encodes(code_s(), &message, &mut symbols, 0, &after)
+    encodes(code_s(), &message, &mut symbols, Ok(()), &after)
 }
 
 // Whether code S has this outcome for a received word, and leaves these symbols in it and this map, whose old marks must not show.
@@ -131,18 +143,9 @@ fn spreads() -> bool {
     let words = [1u8, 3, 2, 2, 6, 4];
     let mut slots = [0u8; 6];
     let after = [1u8, 2, 3, 6, 2, 4];
-    if interleave::spread(2, 3, &words, &mut slots) != 0 {
-        return false;
-    }
-    same(&slots, &after)
+    interleave::spread(2, 3, &words, &mut slots) == Ok(()) && slots == after
 }
 
 fn newer_by_difference() -> bool {
-    if !is_newer(65535, 2) {
-        return false;
-    }
-    if !is_newer(0, 32767) {
-        return false;
-    }
-    is_older(0, 32768)
+    is_newer(65535, 2) && is_newer(0, 32767) && is_older(0, 32768)
 }

@@ -142,3 +142,23 @@ zeros_unseen memory l =
           | yes e ↦ rw e
           | no n ↦ rw (ne_eqb (bit_at memory i) 1 n) (omega (arith, bit_at-lt memory i))
         ])
+
+-- every entry is one of the two
+zeros_and_ones : (n x : ℕ) → total n (λ i. one_if (not (seen_at x (i + 1)))) + total n (bit_at x) ≡ n
+unfolding total seen_at
+zeros_and_ones zero x = refl
+zeros_and_ones (suc n) x = omega (arith, zeros_and_ones n x, entry)
+  where
+    i_is : n + 1 - 1 ≡ n
+    i_is = omega arith
+
+    entry : one_if (not (seen_at x (n + 1))) + bit_at x n ≡ 1
+    entry = elim (ℕ_discrete (bit_at x n) 1) [
+      | yes e ↦ rw (i_is, e)
+      | no m ↦ rw (i_is, ne_eqb (bit_at x n) 1 m) (omega (arith, bit_at-lt x n))
+    ]
+
+-- so what is unseen and what is seen are all 32
+pub unseen_and_seen : (memory : ℕ) → memory < 2 ^ 32 → unseen_in memory + ones memory ≡ 32
+unfolding unseen_in
+unseen_and_seen memory l = omega (arith, zeros_and_ones 32 memory, ones_are 32 memory l)

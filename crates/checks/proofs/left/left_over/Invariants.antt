@@ -1,11 +1,7 @@
 -- `checks::left::left_over` meets its contract. The invariant: the first i sums stand.
-use Prim.Native.Nat.{◌-◌, ◌≤◌}
 use Rattle.algebra.specs.Lists.{Filled}
 use Rattle.checks.specs.Left.{left_at}
 use Rattle.checks.proofs.left.left_over.Given as goal
 
 abbrev pub invariant-loop-i : goal.invariant-loop-i
-invariant-loop-i l = (l.i ≤ 16) × Filled 16 (left_at l.checks l.received) l.i l.rest
-
-abbrev pub decreases-loop-i : goal.decreases-loop-i
-decreases-loop-i l = 16 - l.i
+invariant-loop-i l = Filled 16 (left_at l.checks l.received) l.i l.rest

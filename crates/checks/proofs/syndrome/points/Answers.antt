@@ -1,19 +1,11 @@
 -- `checks::syndrome::points` meets its contract. The loop's invariant: the roots before `j` are laid down, and `x` is the root `j`.
-use mathlib.Core.Path.{◌≡◌, refl, ◌∙◌}
+use mathlib.Core.Path.{◌∙◌}
 use native.Mathlib.Omega.{arith}
-use Rattle.algebra.specs.Lists.{filled_none, filled_more}
+use Rattle.algebra.specs.Lists.{filled_more}
 use Rattle.checks.specs.Roots.{root_next}
 use Rattle.checks.proofs.syndrome.points.Goals as goal
 
-pub loop-j-init : goal.loop-j-init
-loop-j-init c = (omega arith, c.first_root-x.ensures, filled_none _ _ _ refl)
-
-pub loop-j-preserved : goal.loop-j-preserved
-loop-j-preserved c =
-    let o = c.loop-j in
-    (omega arith, c.double-x.ensures ∙ root_next _ _ o.j _ o.invariant.1, filled_more _ _ _ _ _ (omega arith) o.invariant.1 o.invariant.2)
-
-pub returns : goal.returns
-returns c =
-    let e : c.loop-j.j ≡ 16 = omega arith in
-    rw e at c.loop-j.invariant.2
+pub loop-place-preserved : goal.loop-place-preserved
+loop-place-preserved c =
+    let o = c.loop-place in
+    (c.double-x.ensures ∙ root_next _ _ o.place-index _ o.invariant.0, filled_more _ _ _ _ _ (omega arith) o.invariant.0 o.invariant.1)

@@ -10,15 +10,6 @@ use Rattle.checks.proofs.tables.digit.Goals as goal
 written : (table : List ℕ) (from : ℕ) → length table ≡ 128 → length (set table from 0) ≡ 128
 written table from size = length-set table from 0 ∙ size
 
-pub twice-requires-2 : goal.twice-requires-2
-twice-requires-2 c = (c.twice.ensures.size ∙ written _ _ c.requires.0, omega arith)
-
-pub twice-requires-3 : goal.twice-requires-3
-twice-requires-3 c = (c.twice-2.ensures.size ∙ c.twice.ensures.size ∙ written _ _ c.requires.0, omega arith)
-
-pub twice-requires-4 : goal.twice-requires-4
-twice-requires-4 c = (c.twice-3.ensures.size ∙ c.twice-2.ensures.size ∙ c.twice.ensures.size ∙ written _ _ c.requires.0, omega arith)
-
 pub returns : goal.returns
 returns c =
     digits _ _ _ _ _ _ _ _ _ _ _ _ (omega arith) refl refl refl refl c.twice.ensures c.twice-2.ensures c.twice-3.ensures c.twice-4.ensures

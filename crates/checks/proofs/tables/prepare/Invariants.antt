@@ -1,15 +1,13 @@
--- `checks::tables::prepare` meets its contract. The invariant: the rows of the first s parts stand, and p and q are the rows of part s's bits.
-use mathlib.Core.Path.{◌≡◌}
-use Prim.Native.Nat.{◌-◌, ◌≤◌}
-use lib.ListN.{length}
+-- `checks::tables::prepare` meets its contract. The invariant: the rows of the first parts stand, and the bits are those of the next part.
 use Rattle.checks.specs.Checks.{divisor}
 use Rattle.checks.specs.Rows.{Rows}
 use Rattle.checks.specs.Tables.{Basis}
+use Rattle.checks.specs.OneWord.{Unused}
 use Rattle.checks.proofs.tables.prepare.Given as goal
 
-abbrev pub invariant-loop-s : goal.invariant-loop-s
-invariant-loop-s l =
-    (l.s ≤ 4) × (length l.low ≡ 128) × (length l.high ≡ 128) × Rows l.s l.m (divisor l.m l.b l.r) l.low l.high × Basis l.m (divisor l.m l.b l.r) l.s l.p l.q
-
-abbrev pub decreases-loop-s : goal.decreases-loop-s
-decreases-loop-s l = 4 - l.s
+abbrev pub invariant-loop-part : goal.invariant-loop-part
+invariant-loop-part g l = record {
+  rows : Rows l.part l.m (divisor l.m l.b l.r) (g.T.Table.low l.table) (g.T.Table.high l.table);
+  basis : Basis l.m (divisor l.m l.b l.r) l.part l.bits.low l.bits.high;
+  unused : Unused g.T.Table.alone l.bits.high;
+}

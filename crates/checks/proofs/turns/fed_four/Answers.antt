@@ -2,6 +2,6 @@
 use Rattle.checks.specs.Rows.{four}
 use Rattle.checks.proofs.turns.fed_four.Goals as goal
 
-pub returns : goal.returns
+pub returns-clause-number : goal.returns-clause-number
 unfolding four
-returns c = cc
+returns-clause-number g c = cc

@@ -1,31 +1,31 @@
--- `checks::turns::remainder` meets its contract. The invariant of both loops: the two words are the register after i symbols.
+-- `checks::turns::remainder` meets its contract. The invariant of both loops: the register is that after so many symbols.
 use mathlib.Core.Path.{◌≡◌}
+use Prim.Native.Nat.{◌+◌, ◌*◌}
 use native.Mathlib.Omega.{arith}
-use lib.ListN.{length}
 use borrow.Author.Rules.{rules}
 use Rattle.checks.specs.Division.{divided_none, divided_one, divided_four}
+use Rattle.checks.specs.OneWord.{alone_zero}
 use Rattle.checks.proofs.turns.remainder.Goals as goal
 
-pub loop-i-init : goal.loop-i-init
-loop-i-init c = (omega arith, omega arith, divided_none _ _ _ _ _ c.none-p.ensures.0 c.none-p.ensures.1)
+pub loop-turn-init : goal.loop-turn-init
+loop-turn-init g c = record {
+  divided = divided_none _ _ _ _ _ c.none-p.ensures.0 c.none-p.ensures.1;
+  alone = alone_zero _ _ c.none-p.ensures.1;
+}
+
+pub loop-turn-preserved : goal.loop-turn-preserved
+loop-turn-preserved g c =
+    let o = c.loop-turn in
+    let next : 4 * (o.turn + 1) ≡ 4 * o.turn + 4 = omega arith in
+    record {
+      divided = rw next (divided_four _ _ _ _ _ _ _ _ o.invariant.divided (search rules) (search rules) _ (omega (arith, c.count-turns.ensures)) c.four.ensures c.fed_four-p.ensures.number);
+      alone = c.fed_four-p.ensures.upper o.invariant.alone;
+    }
 
 pub loop-i-preserved : goal.loop-i-preserved
-loop-i-preserved c = (
-  omega arith,
-  omega arith,
-  divided_four _ _ _ _ _ _ _ _ c.loop-i.invariant.2 (search rules) (search rules) _ (omega arith) c.four_at.ensures.value
-      (λ j. (c.shared_slice_known-1.given j).fits) c.fed_four-p.ensures,
-)
-
-pub loop-i-2-init : goal.loop-i-2-init
-loop-i-2-init c = c.loop-i.invariant.2
-
-pub loop-i-2-preserved : goal.loop-i-2-preserved
-loop-i-2-preserved c =
-    divided_one _ _ _ _ _ _ _ _ c.loop-i-2.invariant (search rules) (search rules) _ (omega arith)
-    c.wide.ensures.0 c.wide.ensures.1 c.fed-p.ensures
-
-pub returns : goal.returns
-returns c =
-    let e : c.loop-i-2.i ≡ length c.args.symbols.now = omega (arith, c.loop-i-2.invariant.within) in
-    rw e at c.loop-i-2.invariant
+loop-i-preserved g c =
+    let o = c.loop-i in
+    record {
+      divided = divided_one _ _ _ _ _ _ _ _ o.invariant.divided (search rules) (search rules) _ (omega (arith, c.count-i-end.ensures)) c.one.ensures c.fed-p.ensures.number;
+      alone = c.fed-p.ensures.upper o.invariant.alone;
+    }

@@ -1,18 +1,17 @@
--- `checks::turns::remainder` meets its contract. The invariant of both loops: the two words are the register after i symbols.
-use mathlib.Core.Path.{◌≡◌}
-use Prim.Native.Nat.{◌-◌, ◌%◌, ◌≤◌}
-use lib.ListN.{length}
+-- `checks::turns::remainder` meets its contract. The invariant of both loops: the register is that after so many symbols.
+use Prim.Native.Nat.{◌*◌}
 use Rattle.checks.specs.Division.{Divided}
+use Rattle.checks.specs.OneWord.{Alone}
 use Rattle.checks.proofs.turns.remainder.Given as goal
 
+abbrev pub invariant-loop-turn : goal.invariant-loop-turn
+invariant-loop-turn g l = record {
+  divided : Divided (g.T.Table.low l.table) (g.T.Table.high l.table) (g.S.Symbols.list l.symbols) (4 * l.turn) l.p.low l.p.high;
+  alone : Alone g.T.Table.alone l.p.high;
+}
+
 abbrev pub invariant-loop-i : goal.invariant-loop-i
-invariant-loop-i l = (l.i % 4 ≡ 0) × (l.i ≤ l.whole) × Divided l.low l.high l.symbols l.i l.p.low l.p.high
-
-abbrev pub decreases-loop-i : goal.decreases-loop-i
-decreases-loop-i l = l.whole - l.i
-
-abbrev pub invariant-loop-i-2 : goal.invariant-loop-i-2
-invariant-loop-i-2 l = Divided l.low l.high l.symbols l.i l.p.low l.p.high
-
-abbrev pub decreases-loop-i-2 : goal.decreases-loop-i-2
-decreases-loop-i-2 l = length l.symbols - l.i
+invariant-loop-i g l = record {
+  divided : Divided (g.T.Table.low l.table) (g.T.Table.high l.table) (g.S.Symbols.list l.symbols) l.i l.p.low l.p.high;
+  alone : Alone g.T.Table.alone l.p.high;
+}

@@ -2,6 +2,6 @@
 use Rattle.checks.specs.Rows.{both}
 use Rattle.checks.proofs.turns.rows.Goals as goal
 
-pub returns : goal.returns
+pub returns-clause-number : goal.returns-clause-number
 unfolding both
-returns c = cc
+returns-clause-number g c = cc (c.row.ensures.number, c.row-2.ensures.number, c.sum.ensures.number)

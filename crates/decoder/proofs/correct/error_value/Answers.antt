@@ -1,21 +1,11 @@
--- `decoder::correct::error_value` meets its contract: it is the quotient of what `peel_listed` leaves by the `distance`, with the inverse of the
+-- `decoder::correct::error_value` meets its contract: it is the quotient of what the listing's peeling leaves by the distance, with the inverse of the
 -- latter.
 use native.Mathlib.Omega.{arith}
 use lib.ListN.{get_or}
 use Rattle.decoder.specs.Corrections.{error_at}
 use Rattle.decoder.proofs.correct.error_value.Goals as goal
 
-pub peel_listed-rest-requires : goal.peel_listed-rest-requires
-peel_listed-rest-requires c =
-    let a = c.requires in
-    record { n_bound = (omega arith, omega arith, a.n_bound.4); locators = a.locators }
-
-pub distance-far-requires : goal.distance-far-requires
-distance-far-requires c =
-    let a = c.requires in
-    record { n_bound = (omega arith, omega arith, omega arith, a.n_bound.4); locators = a.locators }
-
 pub returns : goal.returns
 returns c = λ flags h.
-    error_at (get_or c.args.locators.now c.args.p 0) _ _ _ _ c.weight.ensures (c.requires.locators.entry _ (omega arith)) (c.distance-far.ensures flags h)
-    (λ few. c.peel_listed-rest.ensures flags h 0 (omega arith)) c.inverse_at.ensures.1 c.times.ensures
+    error_at (get_or c.args.listing.now.places.now.locators c.args.p 0) _ _ _ _ c.weight.ensures (c.args.listing.now.places.now.located.entry _ c.requires.0) (c.distance-far.ensures flags h)
+    (λ few. c.peel-rest.ensures flags h 0 (omega arith)) c.inverse_at.ensures.1 c.times.ensures

@@ -6,6 +6,3 @@ use Rattle.decoder.proofs.locate.values.Given as goal
 
 abbrev pub invariant-loop-l : goal.invariant-loop-l
 invariant-loop-l l = (l.l ≤ l.d) × Uppers l.m l.d l.v l.n l.points l.l l.sums
-
-abbrev pub decreases-loop-l : goal.decreases-loop-l
-decreases-loop-l l = l.l

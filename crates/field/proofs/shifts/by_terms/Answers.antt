@@ -4,14 +4,11 @@ use mathlib.Core.Path.{◌≡◌}
 use Prim.Native.Nat.{◌+◌, ◌-◌}
 use native.Mathlib.Omega.{arith}
 use borrow.Author.Rules.{rules}
-use Rattle.field.proofs.Terms.{bit_mul_le, terms_start, terms_turn, terms_end}
+use Rattle.field.proofs.Terms.{terms_start, terms_turn, terms_end}
 use Rattle.field.proofs.shifts.by_terms.Goals as goal
 
 pub loop-term-init : goal.loop-term-init
 loop-term-init g c = terms_start _ _ _ _ _ _ (search rules) (search rules) c.low-a.ensures c.low-b.ensures
-
-pub overflow_mul-sum : goal.overflow_mul-sum
-overflow_mul-sum g c = record { fits = omega (arith, bit_mul_le c.loop-term.a c.loop-term.b, c.loop-term.invariant.byte) }
 
 pub loop-term-preserved : goal.loop-term-preserved
 loop-term-preserved g c =

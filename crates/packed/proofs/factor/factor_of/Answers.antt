@@ -1,8 +1,11 @@
--- `packed::factor::factor_of` meets its contract.
+-- `packed::factor::factor_of` meets its contract. The invariant: the first k products stand.
 use mathlib.Core.Path.{refl}
-use Rattle.packed.specs.Factors.{factored}
+use native.Mathlib.Omega.{arith}
+use Rattle.packed.specs.Factors.{factoring_one, factoring_more}
 use Rattle.packed.proofs.factor.factor_of.Goals as goal
 
-pub returns : goal.returns
-returns c =
-    factored _ _ _ _ _ _ _ _ _ _ c.requires refl c.double-f1.ensures c.double-f2.ensures c.double-f3.ensures c.double-f4.ensures c.double-f5.ensures c.double-f6.ensures c.double-f7.ensures
+pub loop-k-init : goal.loop-k-init
+loop-k-init c = factoring_one _ _ _ c.requires refl refl
+
+pub loop-k-preserved : goal.loop-k-preserved
+loop-k-preserved c = factoring_more _ _ _ _ _ (omega arith) (omega arith) c.double.ensures c.loop-k.invariant

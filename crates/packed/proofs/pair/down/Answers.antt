@@ -1,11 +1,7 @@
 -- `packed::pair::down` meets its contract.
-use native.Mathlib.Omega.{arith}
-use Rattle.packed.specs.Moves.{down, down_high_fits}
+use Rattle.packed.specs.Moves.{down}
 use borrow.Author.Rules.{rules}
 use Rattle.packed.proofs.pair.down.Goals as goal
-
-pub overflow_add-result-2 : goal.overflow_add-result-2
-overflow_add-result-2 c = record { fits = down_high_fits _ _ 0 (search rules) (omega arith) }
 
 pub returns : goal.returns
 returns c =

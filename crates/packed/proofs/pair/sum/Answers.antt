@@ -3,5 +3,5 @@ use borrow.Author.Rules.{rules}
 use Rattle.algebra.specs.Bytes.{whole_xor}
 use Rattle.packed.proofs.pair.sum.Goals as goal
 
-pub returns : goal.returns
-returns c = whole_xor _ _ _ _ (search rules) (search rules)
+pub returns-clause-number : goal.returns-clause-number
+returns-clause-number c = whole_xor _ _ _ _ (search rules) (search rules)

@@ -1,4 +1,4 @@
--- `figures::bits_at` meets its contract: the exclusive or of two bytes is below 2^8, so it has at most 8 ones.
+-- `count::bits_at` meets its contract: the exclusive or of two bytes is below 2^8, so it has at most 8 ones.
 use mathlib.Core.Path.{refl}
 use native.Mathlib.Omega.{arith}
 use Prim.Native.Nat.{ℕ, ◌≤◌, ◌<◌}

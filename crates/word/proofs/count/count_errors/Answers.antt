@@ -1,4 +1,4 @@
--- `figures::count_errors` meets its contract. The loop's invariant: `e` is the sum over the places before `i`, each at most 1.
+-- `count::count_errors` meets its contract. The loop's invariant: `e` is the sum over the places before `i`, each at most 1.
 use mathlib.Core.Path.{refl, ◌∙◌}
 use native.Mathlib.Omega.{arith}
 use Rattle.algebra.specs.Tests.{total, total_more}

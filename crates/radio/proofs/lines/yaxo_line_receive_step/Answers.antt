@@ -1,7 +1,0 @@
--- `yaxo_line_receive_step` meets its contract: the answer shown is one that the line's own call promises, of the same line.
-use mathlib.Core.Path.{refl}
-use Rattle.radio.proofs.lines.yaxo_line_receive_step.Goals as goal
-
-pub returns : goal.returns
-returns c =
-    record { inner = c.receive_step-t.result; promised = rw c.line_of.ensures at c.receive_step-t.ensures; same = refl }
