@@ -8,7 +8,7 @@ use crate::position::NoMessage;
 use buffers::{copy, filled};
 use word::{DecodeError, Figures, Setting, decode_part};
 
-// 24 bytes and 4 check bytes.
+// 24 bytes and 4 check bytes. Each code is a setting with a name of its own, as the paper has them.
 pub fn outer_code() -> Setting
     ensures { result ≡ outer_code }
 {
@@ -32,7 +32,7 @@ pub fn inner_code() -> Setting
     }
 }
 
-// The mark of the bytes that a word passes on: 1 where it is refused.
+// The mark of the bytes that a word passes on: 1 where it is refused. Which refusal it was goes no further.
 fn mark_of(answer: Result<Figures, DecodeError>) -> u8
     ensures { result ≡ if_zero (number_of answer) 0 1 }
 {

@@ -16,6 +16,9 @@ pub record Products (m : ℕ) (x y r : List ℕ) : Type 0 where
 pub scaled_left : (m f : ℕ) (y r : List ℕ) → Products m (replicate 16 f) y r → (i : ℕ) → i < 16 → at r i ≡ prod m f (at y i)
 scaled_left m f y r p i l = rw (← get_or-replicate {A = ℕ} 16 i f 0 l) (p.each i l)
 
+pub scaled_right : (m f : ℕ) (x r : List ℕ) → Products m x (replicate 16 f) r → (i : ℕ) → i < 16 → at r i ≡ prod m (at x i) f
+scaled_right m f x r p i l = rw (← get_or-replicate {A = ℕ} 16 i f 0 l) (p.each i l)
+
 -- ---- the loop that makes them
 
 unfoldable pub product_at : ℕ → List ℕ → List ℕ → ℕ → ℕ

@@ -37,7 +37,7 @@ pub record IsClean (f : Framing) (slots : List ℕ) (d : Result (Option ℕ) Cle
 pub frame_allowed_once : (f : Framing) (r s : Bool) → r ≡ allowed_frame f → s ≡ allowed_frame f → r ≡ s
 frame_allowed_once f r s p q = cc
 
-sent_as : ℕ → Result (Unit {0}) SendError
+pub sent_as : ℕ → Result (Unit {0}) SendError
 sent_as k = if eqb k 0 then Ok tt else if eqb k 1 then Err S.BadSetting else if eqb k 2 then Err S.BadLength else Err S.LongPayload
 
 sent_as_lem : (d : Result (Unit {0}) SendError) → sent_as (sent_number d) ≡ d
@@ -54,15 +54,15 @@ sends_once {d = d} {e = e} p q =
     (sym (sent_as_lem d) ∙ ap (λ (o : SendOutcome). sent_as o.number) same ∙ sent_as_lem e, ap (λ (o : SendOutcome). o.slots) same)
 
 -- the answer that has these numbers
-received_as : (number word sequence back : ℕ) → List Figures → Result Received ReceiveError
+pub received_as : (number word sequence back : ℕ) → List Figures → Result Received ReceiveError
 received_as k w sequence back figures =
     if eqb k 0 then Ok (record { sequence = sequence; back = back; figures = figures }) else
     if eqb k 1 then Err BadSetting else if eqb k 2 then Err BadLength else if eqb k 3 then Err BadMark else if eqb k 4 then Err (BeyondReach w) else Err BadTrailer
 
-abbrev outcome_as : ReceiveOutcome → Result Received ReceiveError
+abbrev pub outcome_as : ReceiveOutcome → Result Received ReceiveError
 outcome_as o = received_as o.number o.word o.sequence o.back o.figures
 
-received_as_lem : (r : Result Received ReceiveError) (area map : List ℕ) → outcome_as (receive_outcome r area map) ≡ r
+pub received_as_lem : (r : Result Received ReceiveError) (area map : List ℕ) → outcome_as (receive_outcome r area map) ≡ r
 unfolding received_as
 received_as_lem (Ok r) area map = refl
 received_as_lem (Err BadSetting) area map = refl

@@ -1,4 +1,5 @@
-// Document 01, section Numbers a call can answer: the paper's numbers of what sending and receiving answer.
+// Document 01, section Numbers a call can answer: the paper's numbers of what sending and receiving answer. They stay calls, since the promises
+// speak of an answer's number by definitions of these names.
 ghost use Rattle.std.specs.Prelude.{◌≡◌};
 ghost use Rattle.frame.specs.Frame.{sent_number, number_of, word_number, no_numbers, received_of};
 

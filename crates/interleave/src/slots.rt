@@ -1,5 +1,6 @@
 // The slots of one word of a block: byte i of word w stands in slot i * depth + w. A block is read and written one word at a time, so that
-// no buffer of the whole block is needed.
+// no buffer of the whole block is needed. Each call has other slices, and the depth comes from a frame, so what they ask (`HasWord`) stays in their
+// `requires`.
 ghost use Rattle.std.specs.Prelude.{length};
 ghost use Rattle.algebra.specs.Lists.{Copied};
 ghost use Rattle.interleave.specs.Slots.{slot_byte, HasWord, TakesWord, PutsWord};

@@ -29,7 +29,7 @@ pub fn hear(
     Heard { next, answer }
 }
 
-// The same over a lent record, which is updated where it stands. Both calls stay, since callers and README name both; so do those below.
+// The same over a lent record, which is updated where it stands. Both calls stay, since callers and README name both.
 pub fn hear_in(
     lent: &mut Record,
     f: Framing,

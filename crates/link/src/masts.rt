@@ -100,7 +100,7 @@ pub fn hear_masts(
     Heard { next, answer }
 }
 
-// The same over a lent record, which is updated where it stands.
+// The same over a lent record, which is updated where it stands. Both calls stay, since callers and README name both.
 pub fn hear_masts_in(
     lent: &mut Record,
     f: Framing,

@@ -129,7 +129,7 @@ pub fn replay(
     }
 }
 
-// The same over a lent record, which is updated where it stands.
+// The same over a lent record, which is updated where it stands. Both calls stay, since callers and README name both.
 pub fn replay_in(
     lent: &mut Record,
     f: Framing,

@@ -42,7 +42,7 @@ pub fn moved(p: Pair) -> Pair
     }
 }
 
-// Symbol k + 4 goes to place k, and 0 to the last four.
+// Symbol k + 4 goes to place k, and 0 to the last four. It stands beside `moved`, as two lines of constants that a number of places would only hide.
 pub fn moved_four(p: Pair) -> Pair
     ensures number { whole result.low result.high ≡ whole p.low p.high / 4294967296 }
     ensures upper { result.high ≡ p.high / 4294967296 }

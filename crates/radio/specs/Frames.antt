@@ -1,8 +1,8 @@
 -- The calls on a frame for C (document 01, Block interleaver and frame; document 02, No. 9): the setting, what is seen of an answer, what each call promises, that
 -- the place seen is the payload's, and that no call has a second answer.
 -- Assumes nothing.
-use Rattle.std.specs.Prelude.{◌≡◌, refl, Result, Ok, Err, Option, Bool, List, ℕ, ◌+◌, ◌-◌, eqb, take, drop, if◌then◌else◌}
-use Rattle.std.proofs.Common.{ap, ◌∙◌, arith, length-drop, le-leb}
+use Rattle.std.specs.Prelude.{◌≡◌, refl, Result, Ok, Err, Option, Bool, List, ◌≢◌, ℕ, ◌+◌, ◌-◌, eqb, take, drop, if◌then◌else◌}
+use Rattle.std.proofs.Common.{ap, ◌∙◌, arith, length-drop, le-leb, ne_eqb}
 use Rattle.std.proofs.Math.Decide.{dec_le}
 use Rattle.std.proofs.Math.ListN.{length, length-take}
 use Rattle.std.proofs.lemmas.Bool.{lt-leb}
@@ -53,6 +53,16 @@ abbrev pub FrameIsClean : FrameSetting → List ℕ → FrameClean → Type 0
 FrameIsClean s slots r = Shows clean_seen (IsClean (framing_of s) slots) r
 
 -- ---- laws
+
+-- the cases of the start
+module _ (number size many : ℕ) where
+  pub start_refused : number ≢ 0 → 0 ≡ start_of number size many
+  unfolding start_of
+  start_refused n = rw (ne_eqb number 0 n)
+
+  pub start_accepted : number ≡ 0 → (s : ℕ) → s ≡ size - 4 - many → s ≡ start_of number size many
+  unfolding start_of
+  start_accepted z s e = rw z e
 
 -- what an answer hands back is that part of the area: `length` bytes from `start` on
 module _ (back : ℕ) (area : List ℕ) where

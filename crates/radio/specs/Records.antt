@@ -1,7 +1,7 @@
 -- The record's calls for C (document 01, Receiver's record): the record as C lends it, what is seen of the one after a frame, what noting
 -- promises, and that no call has a second answer.
 -- Assumes nothing.
-use Rattle.std.specs.Prelude.{◌≡◌, refl, Bool, not, ℕ, eqb, if◌then◌else◌}
+use Rattle.std.specs.Prelude.{◌≡◌, refl, Bool, true, false, not, ◌≢◌, ℕ, eqb, if◌then◌else◌}
 use Rattle.std.proofs.Common.{ne_eqb}
 use Rattle.std.proofs.Math.Decide.{ℕ_discrete}
 use Rattle.record.specs.Memory.{unseen_in}
@@ -68,6 +68,20 @@ RecordNote h answer new r = Shows (record_seen h) (Notes (record_of h) answer ne
 -- a fresh record says what the paper's does
 pub fresh_lent_lem : record_of fresh_lent ≡ fresh_record
 fresh_lent_lem = refl
+
+-- the cases of the byte
+module _ (flag : ℕ) (accepted : Bool) where
+  pub flag_told : flag ≢ 0 → flag ≡ flag_after flag accepted
+  unfolding flag_after
+  flag_told n = rw (ne_eqb flag 0 n)
+
+  pub flag_first : flag ≡ 0 → accepted ≡ true → 1 ≡ flag_after flag accepted
+  unfolding flag_after
+  flag_first z a = rw (z, a)
+
+  pub flag_none : flag ≡ 0 → accepted ≡ false → 0 ≡ flag_after flag accepted
+  unfolding flag_after
+  flag_none z a = rw (z, a)
 
 flag_stays : (flag : ℕ) → flag_after flag (not (eqb flag 0)) ≡ flag
 unfolding flag_after

@@ -65,7 +65,7 @@ pub fn start_of(number: u8, size: usize, length: usize) -> usize
     size.saturating_sub(4).saturating_sub(length)
 }
 
-// A frame's answer as C sees it, with the area that it left.
+// A frame's answer as C sees it, with the area that it left. It is a call and no `From`, since it takes the area too.
 pub fn frame_answer(t: Result<Received, ReceiveError>, area: &[u8]) -> FrameAnswer
     ensures { result ≡ frame_seen area.now t }
 {

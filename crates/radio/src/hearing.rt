@@ -31,7 +31,7 @@ pub extern "C" fn yaxo_hear(
     HeardAnswer { next, answer }
 }
 
-// The same over a lent record, which is updated where it stands.
+// The same over a lent record, which is updated where it stands. C has both calls.
 #[unsafe(no_mangle)]
 pub extern "C" fn yaxo_hear_in(
     lent: &mut LentRecord,

@@ -43,7 +43,7 @@ pub struct LineReceived {
     pub position: usize,
 }
 
-// The line below, at a position.
+// The line below, at a position. It is a call and no `From`, since it takes the position too.
 fn line_of(line: LineSetting, position: usize) -> Line
     ensures { result ≡ line_of line position }
 {

@@ -39,7 +39,8 @@ fn two_frames() -> FrameAnswer
     }
 }
 
-// The answer as C sees it, with the areas that were left: that of the copy that is used, as a frame's answer.
+// The answer as C sees it, with the areas that were left: that of the copy that is used, as a frame's answer. It is a call and no `From`, since
+// it takes both areas too.
 #[tactic(auto, unfolding(crate::specs::Frames::start_of, frame::specs::Frame::payload_of))]
 fn chosen_answer(t: Result<Chosen, MastsError>, first: &[u8], second: &[u8]) -> ChosenAnswer
     ensures { result ≡ chosen_seen first.now second.now t }
@@ -131,7 +132,7 @@ pub extern "C" fn yaxo_masts_hear(
     MastsAnswer { next, answer }
 }
 
-// The same over a lent record, which is updated where it stands.
+// The same over a lent record, which is updated where it stands. C has both calls.
 #[unsafe(no_mangle)]
 pub extern "C" fn yaxo_masts_hear_in(
     lent: &mut LentRecord,

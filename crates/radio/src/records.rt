@@ -47,7 +47,7 @@ fn flag_after(flag: u8, accepted: bool) -> u8
     if flag != 0 { flag } else { u8::from(accepted) }
 }
 
-// The next record as C sees it.
+// The next record as C sees it. It is a call and no `From`, since it takes the record before too.
 pub fn record_seen(before: LentRecord, next: Record) -> LentRecord
     ensures { result ≡ record_seen before next }
 {
@@ -63,7 +63,7 @@ pub fn record_seen(before: LentRecord, next: Record) -> LentRecord
     }
 }
 
-// The number of a standing, in the record's order. Late came last, so that the numbers before it keep their meaning.
+// The number of a standing, in the record's order; the header has these numbers. Late came last, so that those before it keep their meaning.
 fn kind_number(kind: Kind) -> u8
     ensures { result ≡ kind_number kind }
 {
@@ -122,7 +122,7 @@ pub extern "C" fn yaxo_record_note(before: LentRecord, answer: u8, sequence: u16
     record_seen(before, next)
 }
 
-// The same over a lent record, which is updated where it stands.
+// The same over a lent record, which is updated where it stands. C has both calls.
 #[unsafe(no_mangle)]
 pub extern "C" fn yaxo_record_note_in(lent: &mut LentRecord, answer: u8, sequence: u16)
     ensures { RecordNote lent.old answer sequence lent.new }

@@ -62,7 +62,7 @@ pub extern "C" fn yaxo_replay(
     ReplayAnswer { next, answer }
 }
 
-// The same over a lent record, which is updated where it stands.
+// The same over a lent record, which is updated where it stands. C has both calls.
 #[unsafe(no_mangle)]
 pub extern "C" fn yaxo_replay_in(
     lent: &mut LentRecord,

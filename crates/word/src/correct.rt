@@ -49,8 +49,8 @@ fn correct_errors(
     Some(figures(e, f, count_bits(received, out)))
 }
 
-// Puts the codeword with 2e + f ≤ r into `out`, where there is one, and gives its figures. The syndromes are taken of what the word leaves over, which has at most
-// sixteen symbols.
+// Puts the codeword with 2e + f ≤ r into `out`, where there is one, and gives its figures. The syndromes are taken of what the word leaves
+// over, which has at most sixteen symbols.
 #[tactic(auto, using(crate::specs::Setting::in_limits))]
 pub fn correct_word(
     s: Setting,

@@ -21,7 +21,8 @@ pub enum Look {
     Damaged { marked: usize, rest: [u8; 16] },
 }
 
-// A look at a word that has passed the checks. `checks_of` makes the check symbols of its message: by tables that are lent, or by its own.
+// A look at a word that has passed the checks. `checks_of` makes the check symbols of its message: by tables that are lent, or by its own. `Checked`
+// ties a setting to two lent slices, so it is asked: a struct of the three would be made for this look alone.
 #[tactic(auto, using(crate::specs::Setting::in_limits))]
 pub fn look_at<F: FnOnce(&[u8]) -> [u8; 16]>(
     s: Setting,

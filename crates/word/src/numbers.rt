@@ -1,4 +1,5 @@
-// Document 01, section Numbers a call can answer: the paper's number of a word's answer, and its figures.
+// Document 01, section Numbers a call can answer: the paper's number of a word's answer, and its figures. They stay calls, one for each answer,
+// since the promises speak of an answer's number by definitions of these names.
 ghost use Rattle.std.specs.Prelude.{◌≡◌};
 ghost use Rattle.word.specs.Answers.{input_number, decode_number, encoded_number, number_of, figures_of, no_figures};
 

@@ -28,6 +28,11 @@ pub fn done(errors: u16, marked: u16, bits: u16) -> Outcome {
     })
 }
 
+// Refused, since no codeword is near enough.
+pub fn lost() -> Outcome {
+    Err(DecodeError::BeyondReach)
+}
+
 // Whether encoding answers this and leaves these symbols in the word.
 pub fn encodes(
     s: Setting,

@@ -1,7 +1,7 @@
 // How far the decoder reaches in the longest word with the most check symbols: n = 255, r = 16.
 ghost use Rattle.std.specs.Prelude.{◌≡◌, ◌≤◌, length};
 
-use crate::expect::{Outcome, decodes, decodes_part, done, setting};
+use crate::expect::{Outcome, decodes, decodes_part, done, lost, setting};
 use crate::say::say;
 use word::{DecodeError, Setting};
 
@@ -20,7 +20,7 @@ pub fn say_reach() {
     // Catches a word beyond reach that is accepted, or written before it is refused. No codeword is within 8 places of this one.
     say(
         "9 wrong refused 4",
-        word_answers(9, 0, Err(DecodeError::BeyondReach), received(9), [0; 255]),
+        word_answers(9, 0, lost(), received(9), [0; 255]),
     );
     // Catches a decoder that stops short of r marked symbols.
     say(
@@ -40,7 +40,7 @@ pub fn say_reach() {
     // Catches a part that is written though the word is refused.
     say(
         "part refused 4 stays",
-        part_answers(9, Err(DecodeError::BeyondReach), [9; 239], [0; 255]),
+        part_answers(9, lost(), [9; 239], [0; 255]),
     );
     // Catches a part that is not of k symbols and is filled in front, or beyond its end.
     say("short part refused 2", short_part());

@@ -1,9 +1,9 @@
 // The worked table, P1 to P13, run through the calls.
-use crate::expect::{Outcome, decodes, done, encodes, setting};
+use crate::expect::{Outcome, decodes, done, encodes, lost, setting};
 use crate::heard::{is_newer, is_older};
 use crate::say::say;
 use crate::slots::comes_back;
-use word::{DecodeError, Setting};
+use word::Setting;
 
 // The items of the field and of the word code.
 pub fn say_code() {
@@ -35,24 +35,12 @@ pub fn say_code() {
     // Catches an error place beyond n of a shortened word, a refused word that is written, and its map that is left as it was.
     say(
         "P9",
-        decodes_s(
-            [0, 1, 2],
-            [0, 0, 0],
-            Err(DecodeError::BeyondReach),
-            [0, 1, 2],
-            [0, 0, 0],
-        ),
+        decodes_s([0, 1, 2], [0, 0, 0], lost(), [0, 1, 2], [0, 0, 0]),
     );
     // Catches a marked symbol counted as free because it was right: three marks are more than r. Catches a map of the marks.
     say(
         "P10",
-        decodes_s(
-            [1, 3, 2],
-            [1, 1, 1],
-            Err(DecodeError::BeyondReach),
-            [1, 3, 2],
-            [0, 0, 0],
-        ),
+        decodes_s([1, 3, 2], [1, 1, 1], lost(), [1, 3, 2], [0, 0, 0]),
     );
 }
 

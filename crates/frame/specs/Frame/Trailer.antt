@@ -1,6 +1,6 @@
 -- The area to be sent entry by entry, the test of a received one, and the payload as a part of it.
 -- Assumes nothing.
-use Rattle.std.specs.Prelude.{◌≡◌, refl, Bool, true, false, Ok, List, [], ◌++◌, ℕ, ◌+◌, ◌-◌, ◌≤◌, ◌<◌, take, drop, replicate, eqb}
+use Rattle.std.specs.Prelude.{◌≡◌, refl, Bool, true, false, Ok, Err, List, [], ◌++◌, ℕ, ◌+◌, ◌-◌, ◌≤◌, ◌<◌, take, drop, replicate, eqb}
 use Rattle.std.proofs.Math.Path.{sym}
 use Rattle.std.proofs.Common.{ap, ◌∙◌, eqb→eq, get_or-take, length-take-le}
 use native.Mathlib.Omega.{arith}
@@ -11,6 +11,7 @@ use Rattle.std.proofs.Math.Seq.{get_or-append-add}
 use Rattle.algebra.specs.Tests.{at, each_at, each_all, below, below_at, below_all, passed}
 use Rattle.frame.specs.Frame.{trailer, two_at, area_sent, zeros_before, trailer_good, payload_in, payload_of}
 use Rattle.frame.specs.declared.setting.Received.{Received}
+use Rattle.frame.specs.declared.setting.ReceiveError.{ReceiveError}
 
 -- ---- the area to be sent
 
@@ -82,6 +83,10 @@ module _ (A : ℕ) (area : List ℕ) where
   good_within h b e = rw (le-leb (two_at area (A - 4)) (A - 4) h) e
 
 -- ---- the payload
+
+pub payload_refused : (e : ReceiveError) (area : List ℕ) → [] ≡ payload_of (Err e) area
+unfolding payload_of
+payload_refused e area = refl
 
 module _ (r : Received) (area : List ℕ) where
   pub payload_short : length area < r.back + 4 → [] ≡ payload_of (Ok r) area

@@ -1,22 +1,32 @@
 -- The cases of a standing and of a note, one for each way out of the code, and what a kind says of the two numbers.
 -- Assumes nothing.
-use Rattle.std.specs.Prelude.{◌≡◌, ℕ, ◌<◌, ◌≤◌, Bool, true, false, if◌then◌else◌}
+use Rattle.std.specs.Prelude.{◌≡◌, ℕ, ◌<◌, ◌≤◌, Bool, true, false, ◌≢◌, if◌then◌else◌}
 use Rattle.std.proofs.Math.Path.{refl}
-use Rattle.std.proofs.Common.{sym, ◌∙◌, subst, arith}
+use Rattle.std.proofs.Common.{sym, ap, ◌∙◌, subst, arith}
 use Rattle.std.proofs.lemmas.Bool.{false≢true}
 use Rattle.std.proofs.Math.Decide.{dec_lt}
-use borrow.Author.Tests.{lt-ltb, le-ltb}
+use borrow.Author.Tests.{ne_eqb, lt-ltb, le-ltb}
 use Rattle.record.specs.Memory.{seen_at, slid}
 use Rattle.record.specs.Order.{lead, lag, compared}
 use Rattle.record.specs.Order.Laws.{Says, says}
-use Rattle.record.specs.Record.{memory_after, counted_as, behind_by, kind_of, standing, noted}
+use Rattle.record.specs.Record.{memory_after, counted_as, lost_after, behind_by, kind_of, standing, noted}
 use Rattle.record.specs.declared.order.Order.{Order}
 use Rattle.record.specs.declared.order.Order.TheVariants.{Same, Ahead, Behind}
 use Rattle.record.specs.declared.Record.{Record}
 use Rattle.record.specs.declared.Kind.{Kind}
 use Rattle.record.specs.declared.Kind.TheVariants.{Newer, Repeat, Older, Late}
 
+-- the kinds of a frame behind the last
 module _ (memory d : ℕ) where
+  pub behind_far : 32 < d → Older ≡ behind_by memory d
+  behind_far l = rw (lt-ltb 32 d l)
+
+  pub behind_seen : d ≤ 32 → seen_at memory d ≡ true → Repeat ≡ behind_by memory d
+  behind_seen l e = rw (le-ltb 32 d l, e)
+
+  pub behind_unseen : d ≤ 32 → seen_at memory d ≡ false → Late ≡ behind_by memory d
+  behind_unseen l e = rw (le-ltb 32 d l, e)
+
   -- what holds in each of the three cases holds of the kind
   pub by_memory : (P : Kind → Type 0) → (32 < d → P Older) → (d ≤ 32 → seen_at memory d ≡ true → P Repeat) → (d ≤ 32 → seen_at memory d ≡ false → P Late)
       → P (behind_by memory d)
@@ -39,6 +49,9 @@ module _ (h : Record) (new : ℕ) where
   pub standing_again : h.accepted ≡ true → kind_of h.seen (lag new h.last) (compared new h.last) ≡ standing h new
   unfolding standing
   standing_again a = rw a
+
+  pub standing_as : (o : Order) → h.accepted ≡ true → o ≡ compared new h.last → kind_of h.seen (lag new h.last) o ≡ standing h new
+  standing_as o a e = ap (kind_of h.seen (lag new h.last)) e ∙ standing_again a
 
   pub standing_first : h.accepted ≡ false → Newer ≡ standing h new
   unfolding standing
@@ -88,6 +101,18 @@ pub late_within : (h : Record) (new : ℕ) → Late ≡ standing h new → (1 �
 late_within h new e = subst (Tells h new) (sym e) (tells h new)
 
 module _ (h : Record) (number new : ℕ) where
+  pub noted_beyond : number ≡ 4 → lost_after h ≡ noted h number new
+  unfolding noted
+  noted_beyond e = rw e
+
+  pub noted_trailer : number ≡ 5 → lost_after h ≡ noted h number new
+  unfolding noted
+  noted_trailer e = rw e
+
+  pub noted_other : number ≢ 4 → number ≢ 5 → number ≢ 0 → h ≡ noted h number new
+  unfolding noted
+  noted_other a b c = rw (ne_eqb number 4 a, ne_eqb number 5 b, ne_eqb number 0 c)
+
   pub noted_accepted : number ≡ 0 → counted_as h new (standing h new) ≡ noted h number new
   unfolding noted
   noted_accepted e = rw e
