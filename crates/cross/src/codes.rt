@@ -32,7 +32,8 @@ pub fn inner_code() -> Setting
     }
 }
 
-// The mark of the bytes that a word passes on: 1 where it is refused. Which refusal it was goes no further.
+// The mark of the bytes that a word passes on: 1 where it is refused. Which refusal it was
+// goes no further. It is a match of the answer, as its promise is of the answer's number.
 fn mark_of(answer: Result<Figures, DecodeError>) -> u8
     ensures { result ≡ if_zero (number_of answer) 0 1 }
 {

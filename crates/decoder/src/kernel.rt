@@ -151,7 +151,7 @@ impl Vectors {
     }
 }
 
-// The sums with room behind them, so that sixteen numbers stand from every window on.
+// The sums with room behind them, so that sixteen numbers stand from every window on. Three lines, as `checks::left::padded`, with another promise.
 fn lengthened(sums: [u8; 16]) -> [u8; 24]
     ensures { Filled 24 (at sums) 16 result }
 {

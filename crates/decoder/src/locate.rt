@@ -34,12 +34,36 @@ impl Places {
         Places { m, n, locators }
     }
 
+    // One turn of Horner's rule at each place's locator.
+    fn raise(&self, values: &[u8; 255], symbol: u8) -> [u8; 255]
+        ensures { Filled 255 (raised_at self.now.m symbol values.now self.now.locators) self.now.n result }
+    {
+        if self.m == 3 {
+            raise_by::<3>(self.n, values, &self.locators, symbol)
+        } else {
+            raise_by::<8>(self.n, values, &self.locators, symbol)
+        }
+    }
+
+    // The values of the polynomial at the locators: by turns over all places, since that is vector code.
+    fn values(&self, v: &[u8; 16], d: usize) -> [u8; 255]
+        requires { d ≤ 9 }
+        ensures { Filled 255 (λ i. ev (K self.now.m) d (λ l. at v.now l) (at self.now.locators i)) self.now.n result }
+    {
+        let mut sums: [u8; 255] = [0; 255];
+        for l in (0..d).rev() {
+            let next = self.raise(&sums, v[l]);
+            sums = next;
+        }
+        sums
+    }
+
     // The places where an error can stand: a flag for each of the n places, and 0 from n on.
     pub fn candidates(&self, marks: &[u8], v: &[u8; 16], d: usize) -> [u8; 255]
         requires { (length marks.now ≡ self.now.n) × (d ≤ 9) }
         ensures { Candidates self.now.m self.now.n marks.now v.now d result }
     {
-        let ys = values(self.m, self.n, v, d, &self.locators);
+        let ys = self.values(v, d);
         let mut flags: [u8; 255] = [0; 255];
         for i in 0..self.n {
             flags[i] = candidate(self.m, marks[i], ys[i]);
@@ -63,31 +87,6 @@ fn raise_by<const M: usize>(
         next[i] = times(M, values[i], points[i]) ^ symbol;
     }
     next
-}
-
-// The same in the field that m names.
-fn raise(m: usize, n: usize, values: &[u8; 255], points: &[u8; 255], symbol: u8) -> [u8; 255]
-    requires { n ≤ 255 }
-    ensures { Filled 255 (raised_at m symbol values.now points.now) n result }
-{
-    if m == 3 {
-        raise_by::<3>(n, values, points, symbol)
-    } else {
-        raise_by::<8>(n, values, points, symbol)
-    }
-}
-
-// The values of the polynomial at the first n points: by turns over all points, since that is vector code.
-fn values(m: usize, n: usize, v: &[u8; 16], d: usize, points: &[u8; 255]) -> [u8; 255]
-    requires { (n ≤ 255) × (d ≤ 9) }
-    ensures { Filled 255 (λ i. ev (K m) d (λ l. at v.now l) (at points.now i)) n result }
-{
-    let mut sums: [u8; 255] = [0; 255];
-    for l in (0..d).rev() {
-        let next = raise(m, n, &sums, points, v[l]);
-        sums = next;
-    }
-    sums
 }
 
 // 1 where a place is marked or the polynomial's value y there is the field's zero, else 0.

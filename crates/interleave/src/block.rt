@@ -4,7 +4,8 @@ ghost use Rattle.interleave.specs.Numbers.{answered, block_number, block_error};
 ghost use Rattle.interleave.specs.Block.{block_refusal, transposed, Spread, Gather};
 ghost use Rattle.interleave.specs.Rows.{RowsMoved};
 
-// Why a block is refused, in the order of the paper's numbers: depth or n outside the limits, or a buffer that is not of depth * n bytes.
+// Why a block is refused, in the order of the paper's numbers: depth or n outside the limits, or a buffer that is not of depth * n bytes. Frames
+// and replays are refused by errors of their own: each says what its call was lent.
 #[derive(Clone, Copy, Debug, PartialEq, Eq)]
 pub enum BlockError {
     BadSetting,

@@ -13,7 +13,8 @@ pub struct Heard<A> {
     pub answer: A,
 }
 
-// Receives a frame into the lent area and map as `receive` does, and notes its number and its sequence number in the record.
+// Receives a frame into the lent area and map as `receive` does, and notes its number and its sequence number in the record. Its four slices stay
+// apart, as README and C name them; where two copies come at once each is a `MastCopy`.
 pub fn hear(
     before: Record,
     f: Framing,

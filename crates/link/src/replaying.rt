@@ -44,7 +44,8 @@ fn put_result(answer: Result<Received, ReceiveError>, place: &mut [u16])
     put_figures(numbers.figures, &mut place[4..52]);
 }
 
-// Whether the frames can be heard. More slots than 64 frames hold come before a total that does not fit.
+// Whether the frames can be heard. More slots than 64 frames hold come before a total that does not fit. The sizes are written out: a framing's own
+// methods ask something of it, and stay in `frame`.
 fn check_replay(
     f: Framing,
     slots: &[u8],
@@ -108,7 +109,7 @@ fn hear_all(
 }
 
 // Hears up to 64 frames that lie end to end, each with the record that the one before it left, and answers how many. Where the whole call is
-// refused, nothing is touched.
+// refused, nothing is touched. All that is lent lies end to end, since C lends it so.
 pub fn replay(
     before: Record,
     f: Framing,

@@ -4,7 +4,7 @@ ghost use Rattle.radio.specs.Blocks.{moved_seen, BlockSpread, BlockGather};
 
 use interleave::{BlockError, gather, spread};
 
-// The number of an answer: 0 where the bytes were moved.
+// The number of an answer: 0 where the bytes were moved. Each call's answer has a call like this, since the errors have no type in common.
 fn moved_number(answer: Result<(), BlockError>) -> u8
     ensures { result ≡ moved_seen answer }
 {

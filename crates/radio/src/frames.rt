@@ -9,7 +9,7 @@ use frame::{
 };
 use word::Figures;
 
-// A frame as C sets it.
+// A frame as C sets it, in numbers of 32 bits.
 #[repr(C)]
 #[derive(Clone, Copy)]
 pub struct FrameSetting {
@@ -54,7 +54,8 @@ impl From<FrameSetting> for Framing {
     }
 }
 
-// Where a payload of so many bytes starts in an area of `size`: it ends four before the end. 0 where the frame was refused.
+// Where a payload of so many bytes starts in an area of `size`: it ends four before the end. 0 where the frame was refused, which the number
+// that C sees beside it tells.
 #[tactic(auto, unfolding(crate::specs::Frames::start_of))]
 pub fn start_of(number: u8, size: usize, length: usize) -> usize
     ensures { result ≡ start_of number size length }

@@ -5,7 +5,7 @@ use crate::frames::{FrameAnswer, FrameSetting, frame_answer};
 use crate::records::{LentRecord, record_seen};
 use link::hear;
 
-// The record after a frame, and what the frame was answered.
+// The record after a frame, and what the frame was answered. The header has it as a struct of its own.
 #[repr(C)]
 #[derive(Clone, Copy)]
 pub struct HeardAnswer {

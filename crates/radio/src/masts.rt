@@ -17,7 +17,7 @@ pub struct ChosenAnswer {
     pub frame: FrameAnswer,
 }
 
-// The record after two copies, and what they were answered.
+// The record after two copies, and what they were answered. The header has it as a struct of its own.
 #[repr(C)]
 #[derive(Clone, Copy)]
 pub struct MastsAnswer {

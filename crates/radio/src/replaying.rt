@@ -15,7 +15,7 @@ pub struct ReplayedAnswer {
     pub frames: usize,
 }
 
-// The record after the last frame, and the answer.
+// The record after the last frame, and the answer. The header has it as a struct of its own.
 #[repr(C)]
 #[derive(Clone, Copy)]
 pub struct ReplayAnswer {

@@ -72,7 +72,7 @@ fn position_after(start: usize, count: usize, positions: usize) -> usize
 
 // A step for each of the bytes, in order, from a position on; what leaves at a step takes the place of what went in. Answers the position
 // after them. Marks run as bytes do. Rings share no cells, so the branches take their steps one after the other, and only those that the run meets.
-// The numbers stand one by one: no caller has them together, so a struct of them would be made at each call for this function alone.
+// The numbers stand one by one: no caller has all of them together, so a struct of them would be made at each call for this function alone.
 pub fn run(
     branches: usize,
     unit: usize,

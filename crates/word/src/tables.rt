@@ -1,5 +1,6 @@
 // The same calls for many words of one setting, as a frame's: the tables of the check symbols are made once and lent to each word, and the
-// caller has made all checks. What these calls ask is in their `requires`.
+// caller has made all checks. What these calls ask is in their `requires`. They stay beside `encode`, `decode_part` and `is_clean`, which make their
+// checks and tables themselves. A lent map or part is as long as the setting says: that ties slices to a setting, and is asked where they are lent.
 ghost use Rattle.std.specs.Prelude.{◌≡◌, ◌≤◌, length};
 ghost use Rattle.checks.specs.Prepared.{ChecksBy};
 ghost use Rattle.word.specs.Setting.{message_size};

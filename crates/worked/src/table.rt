@@ -12,11 +12,14 @@ pub fn say_code() {
     // Catches a product at m = 8 that is not reduced by 285.
     say("P2", multiplies(8, 128, 2, 29));
     // Catches symbols in 002's order, lowest power first, and roots from a^0 where b = 1.
-    say("P3", encodes_example());
+    say(
+        "P3",
+        encodes_to(example(), [7, 3, 2], [7, 3, 2, 5, 6, 4, 1]),
+    );
     // Catches a decoder that mends one wrong symbol only, bits counted as symbols, and a map in another order than the word.
     say("P4", mends_example());
     // Catches roots from a^1 where b = 0.
-    say("P5", encodes_s());
+    say("P5", encodes_to(code_s(), [1], [1, 3, 2]));
     // Catches an error in the first place, the highest power, that is put elsewhere.
     say(
         "P6",
@@ -69,38 +72,44 @@ fn code_s() -> Setting {
     setting(8, 3, 2, 0)
 }
 
-fn encodes_example() -> bool {
-    let message = [7u8, 3, 2];
-    let mut symbols = [0u8; 7];
-    let after = [7u8, 3, 2, 5, 6, 4, 1];
-    encodes(example(), &message, &mut symbols, Ok(()), &after)
+// Whether a code makes this word of a message.
+fn encodes_to<const K: usize, const N: usize>(
+    s: Setting,
+    message: [u8; K],
+    after: [u8; N],
+) -> bool {
+    let mut symbols = [0u8; N];
+    encodes(s, &message, &mut symbols, Ok(()), &after)
+}
+
+// Whether a code has this outcome for a received word, and leaves these symbols in it and this map, whose old marks must not show.
+fn decodes_to<const N: usize>(
+    s: Setting,
+    received: [u8; N],
+    marks: [u8; N],
+    wanted: Outcome,
+    after: [u8; N],
+    changed: [u8; N],
+) -> bool {
+    let mut symbols = received;
+    let mut map = [9u8; N];
+    decodes(s, &mut symbols, &marks, &mut map, wanted, &after, &changed)
 }
 
 fn mends_example() -> bool {
-    let mut symbols = [7u8, 3, 5, 1, 6, 4, 1];
-    let marks = [0u8; 7];
-    let mut map = [9u8; 7];
-    let after = [7u8, 3, 2, 5, 6, 4, 1];
-    let changed = [0u8, 0, 1, 1, 0, 0, 0];
-    decodes(
+    let received = [7, 3, 5, 1, 6, 4, 1];
+    let sent = [7, 3, 2, 5, 6, 4, 1];
+    decodes_to(
         example(),
-        &mut symbols,
-        &marks,
-        &mut map,
+        received,
+        [0; 7],
         done(2, 0, 4),
-        &after,
-        &changed,
+        sent,
+        [0, 0, 1, 1, 0, 0, 0],
     )
 }
 
-fn encodes_s() -> bool {
-    let message = [1u8];
-    let mut symbols = [0u8; 3];
-    let after = [1u8, 3, 2];
-    encodes(code_s(), &message, &mut symbols, Ok(()), &after)
-}
-
-// Whether code S has this outcome for a received word, and leaves these symbols in it and this map, whose old marks must not show.
+// The same of a word of code S.
 fn decodes_s(
     received: [u8; 3],
     marks: [u8; 3],
@@ -108,17 +117,7 @@ fn decodes_s(
     after: [u8; 3],
     changed: [u8; 3],
 ) -> bool {
-    let mut symbols = received;
-    let mut map = [9u8; 3];
-    decodes(
-        code_s(),
-        &mut symbols,
-        &marks,
-        &mut map,
-        wanted,
-        &after,
-        &changed,
-    )
+    decodes_to(code_s(), received, marks, wanted, after, changed)
 }
 
 fn spreads() -> bool {

@@ -1,8 +1,8 @@
--- `decoder::locate::values` meets its contract. The loop's invariant: the coefficients from l up are
+-- `decoder::locate::Places::values` meets its contract. The loop's invariant: the coefficients from l up are
 -- summed at each of the points.
 use native.Mathlib.Omega.{arith}
 use Rattle.decoder.specs.Candidates.{uppers_none, uppers_more, uppers_all}
-use Rattle.decoder.proofs.locate.values.Goals as goal
+use Rattle.decoder.proofs.locate.Places.values.Goals as goal
 
 pub loop-l-init : goal.loop-l-init
 loop-l-init c = (omega arith, uppers_none _ _ _ _ _ (omega arith))

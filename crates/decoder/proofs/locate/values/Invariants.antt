@@ -1,8 +1,0 @@
--- `decoder::locate::values` meets its contract. The loop's invariant: the coefficients from l up are
--- summed at each of the points.
-use Prim.Native.Nat.{◌≤◌}
-use Rattle.decoder.specs.Candidates.{Uppers}
-use Rattle.decoder.proofs.locate.values.Given as goal
-
-abbrev pub invariant-loop-l : goal.invariant-loop-l
-invariant-loop-l l = (l.l ≤ l.d) × Uppers l.m l.d l.v l.n l.points l.l l.sums
