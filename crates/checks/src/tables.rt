@@ -17,7 +17,7 @@ use packed::pair::{Pair, doubled};
 
 // The s rows from `from` on, summed with x, behind them.
 fn twice(table: &mut [u64; 128], from: usize, s: usize, x: u64)
-    requires { (length table.old ≡ 128) × (from + s + s ≤ 128) }
+    requires { from + s + s ≤ 128 }
     ensures { Twice table.old table.new from s x }
 {
     for v in 0..s {
@@ -27,7 +27,7 @@ fn twice(table: &mut [u64; 128], from: usize, s: usize, x: u64)
 
 // The rows of the sixteen digits from those of four bits.
 fn digit(table: &mut [u64; 128], from: usize, p: &[u64; 8], o: usize)
-    requires { (length table.old ≡ 128) × (from + 16 ≤ 128) × (o ≤ 4) }
+    requires { (from + 16 ≤ 128) × (o ≤ 4) }
     ensures { Digits table.old table.new from p.now o }
 {
     table[from] = 0;
@@ -39,7 +39,7 @@ fn digit(table: &mut [u64; 128], from: usize, p: &[u64; 8], o: usize)
 
 // The rows of one part: those of its low digit, and then those of its high one.
 pub fn put(table: &mut [u64; 128], from: usize, p: &[u64; 8])
-    requires { (length table.old ≡ 128) × (from + 32 ≤ 128) }
+    requires { from + 32 ≤ 128 }
     ensures { Put table.old table.new from p.now }
 {
     digit(table, from, p, 0);

@@ -31,7 +31,6 @@ pub fn error_value(listing: &Listing, b: usize, sums: [u8; 16], p: usize) -> u8
 
 // Takes those of one symbol out of the power sums: y, y x, y x^2, ..
 fn take_out(m: usize, rest: &mut [u8; 16], y: u8, x: u8)
-    requires { length rest.old ≡ 16 }
     ensures size { length rest.new ≡ 16 }
     ensures taken { TakenOut m rest.old y x rest.new }
 {

@@ -48,7 +48,7 @@ impl<'a> Window<'a> {
 
     // Puts x times the row at b, plus y times the row at c, in the place of the row at b.
     fn combine(&self, rows: &mut [u8; 88], b: usize, c: usize, x: u8, y: u8)
-        requires { (length rows.old ≡ 88) × (b + 16 ≤ 88) × (c + 16 ≤ 88) }
+        requires { (b + 16 ≤ 88) × (c + 16 ≤ 88) }
         ensures { Combined self.now.m b c self.now.d x y rows.old rows.new }
     {
         let own = products(self.m, [x; 16], lanes(rows, b));
