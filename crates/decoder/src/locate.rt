@@ -93,8 +93,5 @@ fn raise_by<const M: usize>(
 fn candidate(m: usize, mark: u8, y: u8) -> u8
     ensures { result ≡ flag_of m mark y }
 {
-    if mark != 0 || low(m, y) == 0 {
-        return 1;
-    }
-    0
+    u8::from(mark != 0 || low(m, y) == 0)
 }
