@@ -1,9 +1,17 @@
--- The products that the code forms come to the cells of the specification.
+-- The products that the code forms are small, and come to the cells of the specification.
 -- Assumes nothing.
 use mathlib.Core.Path.{◌≡◌}
 use Prim.Native.Nat.{ℕ, ◌+◌, ◌-◌, ◌*◌, ◌/◌, ◌%◌, ◌≤◌, ◌<◌}
+use native.Mathlib.Nat.{mul-le-mul_right}
 use native.Mathlib.Omega.{arith}
 use Rattle.rings.specs.Rings.{tri, ring, tri_half, ring_within}
+
+-- a cell of a ring, and the products on the way to it
+pub ring_bound : (k M : ℕ) → k ≤ 32 → M ≤ 128 → (k * (k - 1) ≤ 992) × (k * (k - 1) / 2 * M ≤ 63488) × (k * M ≤ 4096)
+ring_bound k M h u =
+    let a : k * (k - 1) ≤ 992 = omega (arith, mul-le-mul_right (k - 1) h) in
+    let e : k * (k - 1) / 2 ≤ 496 = omega arith in
+    (a, omega (arith, mul-le-mul_right M e), omega (arith, mul-le-mul_right M h))
 
 pub ring_code : (M k q : ℕ) → k * (k - 1) / 2 * M + q % (k * M) ≡ ring M k q
 unfolding ring

@@ -48,18 +48,17 @@ module _ (M k q I f : ℕ) (m₀ bs₀ : List ℕ) where
       taken_still _ _ _ (suc i) (i + I) (lent m₀ bs₀) (omega arith) (λ j u v g. rest_apart I i j (omega arith) v (e ∙ sym g))
       ∙ taken_yes _ _ _ i (lent m₀ bs₀) e
 
-  -- byte i and the cell have changed places
-  pub walking_more : (cell later i x y : ℕ) (m bs : List ℕ) → 0 < I → k ≢ 0 → i < length bs₀ → x ≡ get_or bs i 0 → y ≡ get_or m cell 0
-      → later ≡ tri k * M + (cell + 1 - tri k * M) % (k * M) → Walking cell i m bs → Walking later (i + I) (set m cell x) (set bs i y)
-  walking_more cell later i x y m bs h u l ex ey e p =
+  pub walking_more : (cell later i : ℕ) (m bs : List ℕ) → 0 < I → k ≢ 0 → i < length bs₀ → later ≡ tri k * M + (cell + 1 - tri k * M) % (k * M)
+      → Walking cell i m bs → Walking later (i + I) (set m cell (get_or bs i 0)) (set bs i (get_or m cell 0))
+  walking_more cell later i m bs h u l e p =
       let turn : q + (i + I) / I ≡ q + i / I + 1 = omega (arith, add-div_right i h) in
       record {
-        exact = length-set m cell x ∙ p.exact;
-        count = length-set bs i y ∙ p.count;
+        exact = length-set m cell _ ∙ p.exact;
+        count = length-set bs i _ ∙ p.count;
         branch = add-mod_right i I ∙ p.branch;
         near = omega arith;
         stands = rw (turn, ring_next M k (q + i / I), ← p.stands) e;
-        done = rw (ex, ey, next_step i h p.branch, ← p.done, ← p.stands) (kept k (lent m bs) _ u);
+        done = rw (next_step i h p.branch, ← p.done, ← p.stands) (kept k (lent m bs) _ u);
       }
 
   pub walking_all : (cell i : ℕ) (m bs : List ℕ) → length bs₀ ≤ i → Walking cell i m bs → lent m bs ≡ walked M k q I f m₀ bs₀

