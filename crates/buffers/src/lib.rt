@@ -26,12 +26,15 @@ pub fn fill(buffer: &mut [u8], value: u8)
     buffer.fill(value);
 }
 
-// Fills the target with the front of the source.
+// Fills the target with the front of the source. Byte by byte, since the library's `copy_from_slice` also moves what overlaps, so that the
+// archive for C would need `memmove` from outside; this loop becomes a `memcpy`, which it needs in any case.
 pub fn copy(source: &[u8], target: &mut [u8])
     requires { length target.old ≤ length source.now }
     ensures { target.new ≡ take (length target.old) source.now }
 {
-    target.copy_from_slice(&source[..target.len()]);
+    for i in 0..target.len() {
+        target[i] = source[i];
+    }
 }
 
 // Fills the target with the front of two lists that stand one behind the other; the first is not longer than the target.
@@ -40,7 +43,7 @@ pub fn join(first: &[u8], second: &[u8], target: &mut [u8])
     ensures { target.new ≡ take (length target.old) (first.now ++ second.now) }
 {
     let (front, back) = target.split_at_mut(first.len());
-    front.copy_from_slice(first);
+    copy(first, front);
     copy(second, back);
 }
 
