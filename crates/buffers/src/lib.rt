@@ -27,7 +27,7 @@ pub fn fill(buffer: &mut [u8], value: u8)
 }
 
 // Fills the target with the front of the source. Byte by byte, since the library's `copy_from_slice` also moves what overlaps, so that the
-// archive for C would need `memmove` from outside; this loop becomes a `memcpy`, which it needs in any case.
+// archive for C would need `memmove` from outside. Two lent buffers never overlap, and a loop over them needs no more than `memcpy`.
 pub fn copy(source: &[u8], target: &mut [u8])
     requires { length target.old ≤ length source.now }
     ensures { target.new ≡ take (length target.old) source.now }
