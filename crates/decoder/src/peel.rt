@@ -20,6 +20,21 @@ pub fn peel(m: usize, sums: [u8; 16], x: u8) -> [u8; 16]
     rest
 }
 
+// Puts the flagged places of a word of n into `places`, in order, and gives their number. It asks nothing of the word's locators, so it stands by itself.
+pub fn list(n: usize, flags: &[u8], places: &mut [u8; 255]) -> usize
+    requires { (n ≤ 255) × (n ≤ length flags.now) }
+    ensures { (result ≤ n) × Listed n flags.now result places.new }
+{
+    let mut count = 0;
+    for i in 0..n {
+        if flags[i] != 0 {
+            places[count] = i as u8;
+            count += 1;
+        }
+    }
+    count
+}
+
 // The flagged places of a word, in order: the first `count` of `flagged`.
 #[derive(Drop)]
 pub struct Listing<'a> {
@@ -38,13 +53,7 @@ impl<'a> Listing<'a> {
         ensures listed { Listed places.now.n flags.now result.count result.flagged }
     {
         let mut flagged: [u8; 255] = [0; 255];
-        let mut count = 0;
-        for i in 0..places.n {
-            if flags[i] != 0 {
-                flagged[count] = i as u8;
-                count += 1;
-            }
-        }
+        let count = list(places.n, flags, &mut flagged);
         Listing {
             places,
             flagged,
