@@ -52,7 +52,7 @@ pub struct Apart<'a> {
     pub step: usize,
     pub first: usize,
     pub n: usize,
-    ghost within: { Within step first n (length slots.now) },
+    pub ghost within: { Within step first n (length slots.now) },
 }
 
 impl<'a> Symbols for Apart<'a> {

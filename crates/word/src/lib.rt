@@ -25,7 +25,7 @@ pub use clean::is_clean;
 use correct::correct_word;
 pub use limits::is_allowed;
 use limits::{check_message, check_part, check_received};
-use look::{Look, look_alone};
+use look::{Look, look_at};
 use map::note_changes;
 
 // What a word code is set to: m bits a symbol, n symbols a word, r check symbols, and b, the power of a at which its zeros start.
@@ -176,7 +176,7 @@ pub fn decode(
     ensures { Decodes s word.old marks.now map.old result word.new map.new }
 {
     check_received(s, word, marks, map)?;
-    let seen = look_alone(s, word, marks);
+    let seen = look_at(s, word, marks);
     in_place(s, seen, word, marks, map)
 }
 
@@ -192,6 +192,6 @@ pub fn decode_part(
     ensures { DecodesPart s received.now marks.now part.old map.old result part.new map.new }
 {
     check_part(s, received, marks, part, map)?;
-    let seen = look_alone(s, received, marks);
+    let seen = look_at(s, received, marks);
     to_part(s, seen, received, marks, part, map)
 }

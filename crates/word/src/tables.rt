@@ -2,7 +2,6 @@
 // caller has made all checks. What these calls ask is in their `requires`. They stay beside `encode`, `decode_part` and `is_clean`, which make their
 // checks and tables themselves. A lent map or part is as long as the setting says: that ties slices to a setting, and is asked where they are lent.
 ghost use Rattle.std.specs.Prelude.{◌≡◌, ◌≤◌, length};
-ghost use Rattle.checks.specs.Prepared.{ChecksBy};
 ghost use Rattle.word.specs.Setting.{message_size};
 ghost use Rattle.word.specs.Code.{encoded};
 ghost use Rattle.word.specs.Refusals.{MessageChecked, Checked};
@@ -10,7 +9,7 @@ ghost use Rattle.word.specs.Codeword.{is_codeword};
 ghost use Rattle.word.specs.Looking.{Tabled, Stands, standing};
 ghost use Rattle.word.specs.Promises.{DecodesPart};
 
-use crate::look::look_at;
+use crate::look::look_by;
 use crate::{DecodeError, Figures, Setting, to_part};
 use buffers::join;
 use checks::left::agree;
@@ -48,10 +47,7 @@ pub fn decode_part_by(
     requires { Checked s marks.now received.now × Tabled s tables.now × (length part.old ≡ message_size s) × (length map.old ≡ s.n) }
     ensures { DecodesPart s received.now marks.now part.old map.old result part.new map.new }
 {
-    let by_tables = |message: &[u8]| -> [u8; 16]
-        ensures { ChecksBy s.r tables.entry.now.low tables.entry.now.high message.now result }
-    { register::check_symbols_by(s.r, tables, message) };
-    let seen = look_at(s, received, marks, by_tables);
+    let seen = look_by(s, tables, received, marks);
     to_part(s, seen, received, marks, part, map)
 }
 

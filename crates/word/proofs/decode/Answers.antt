@@ -10,8 +10,8 @@ returns-in_err-check_received c =
     let p = err_from_is_err_and c.from_residual.result c.from_residual.ensures.1 in
     rw (p.1, p.2) (decode_checks _ _ _ _ _ c.in_err-check_received.ensures)
 
-pub look_alone-seen-requires : goal.look_alone-seen-requires
-look_alone-seen-requires c = (checked _ _ _ _ (sym c.in_ok-check_received.ensures)).1
+pub look_at-seen-requires : goal.look_at-seen-requires
+look_at-seen-requires c = (checked _ _ _ _ (sym c.in_ok-check_received.ensures)).1
 
 pub in_place-requires : goal.in_place-requires
-in_place-requires c = (c.look_alone-seen.ensures, (checked _ _ _ _ (sym c.in_ok-check_received.ensures)).0)
+in_place-requires c = (c.look_at-seen.ensures, (checked _ _ _ _ (sym c.in_ok-check_received.ensures)).0)

@@ -10,10 +10,10 @@ returns-in_err-check_part c =
     let p = err_from_is_err_and c.from_residual.result c.from_residual.ensures.1 in
     rw (p.1, p.2) (part_checks _ _ _ _ _ _ c.in_err-check_part.ensures)
 
-pub look_alone-seen-requires : goal.look_alone-seen-requires
-look_alone-seen-requires c = (part_checked _ _ _ _ _ (sym c.in_ok-check_part.ensures)).2
+pub look_at-seen-requires : goal.look_at-seen-requires
+look_at-seen-requires c = (part_checked _ _ _ _ _ (sym c.in_ok-check_part.ensures)).2
 
 pub to_part-requires : goal.to_part-requires
 to_part-requires c =
     let checked = part_checked _ _ _ _ _ (sym c.in_ok-check_part.ensures) in
-    (c.look_alone-seen.ensures, checked.0, checked.1)
+    (c.look_at-seen.ensures, checked.0, checked.1)
