@@ -104,13 +104,18 @@ impl Page<'_> {
         self.put_byte(hex_digit(byte % 16));
     }
 
-    // Writes each byte so.
+    // Writes each byte so, on a page of its own: stored through `self`, each digit would wait until `end` is stored for the one before it.
     pub fn put_hexes(&mut self, bytes: &[u8])
         requires { self.old.end + 2 * length bytes.now ≤ length self.old.text.now }
         ensures { WritesWithin (2 * length bytes.now) (hexes bytes.now) self.old self.new }
     {
+        let mut page = Page {
+            text: self.text,
+            end: self.end,
+        };
         for byte in bytes {
-            self.put_hex(*byte);
+            page.put_hex(*byte);
         }
+        self.end = page.end;
     }
 }

@@ -29,13 +29,21 @@ module _ {before p₁ p₂ p₃ p₄ after : Page} where
   unfolding word_line
   put_figures w own p q r s u = writes_then (writes_then (writes_then (writes_then p q) r) s) u
 
--- the words one after the other
+-- the words one after the other, and that each has its bound of bytes
 module _ (figures : List Figures) where
-  pub words_begun : (page : Page) → page.end ≤ length page.text.now → WritesWithin (48 * 0) (word_lines 0 figures) page page
+  pub words_begun : (page : Page) → page.end ≤ length page.text.now → Writes (word_lines 0 figures) page page
   unfolding word_lines joined
-  words_begun page room = record { whole = writes_none page room; within = omega arith }
+  words_begun page room = writes_none page room
 
-  pub words_on : (w : ℕ) {before between after : Page} → WritesWithin (48 * w) (word_lines w figures) before between
-      → WritesWithin 48 (word_line w (get_or figures w no_figures)) between after → WritesWithin (48 * (w + 1)) (word_lines (w + 1) figures) before after
-  unfolding word_lines
-  words_on w p q = record { whole = rw joined_more (writes_then p.whole q.whole); within = omega (arith, p.within, q.within) }
+  pub words_begun_within : (page : Page) → page.end ≤ length page.text.now → WritesWithin (48 * 0) (word_lines 0 figures) page page
+  words_begun_within page room = record { whole = words_begun page room; within = omega arith }
+
+  module _ (w : ℕ) {before between after : Page} where
+    pub words_on : Writes (word_lines w figures) before between → Writes (word_line w (get_or figures w no_figures)) between after
+        → Writes (word_lines (w + 1) figures) before after
+    unfolding word_lines
+    words_on p q = rw joined_more (writes_then p q)
+
+    pub words_on_within : WritesWithin (48 * w) (word_lines w figures) before between
+        → WritesWithin 48 (word_line w (get_or figures w no_figures)) between after → WritesWithin (48 * (w + 1)) (word_lines (w + 1) figures) before after
+    words_on_within p q = record { whole = words_on p.whole q.whole; within = omega (arith, p.within, q.within) }

@@ -57,24 +57,30 @@ spaced_more l at mark slot = go (eqb mark 0) l
     go false [] = rw (eq-eqb (at + 0) at (omega arith)) (spaced_one slot)
     go false (m ∷ l) = rw (ne_eqb (at + length (spaced (m ∷ l))) at (λ e. omega (arith, spaced_some m l))) (spaced_next m l slot)
 
--- ---- the slots one after the other
+-- ---- the slots one after the other, and that each has its bound of bytes
 
 module _ (map : List ℕ) where
-  pub slots_begun : (page : Page) → page.end ≤ length page.text.now → WritesWithin (5 * 0) (spaced (changed_below 0 map)) page page
+  pub slots_begun : (page : Page) → page.end ≤ length page.text.now → Writes (spaced (changed_below 0 map)) page page
   unfolding spaced changed_below joined
-  slots_begun page room = record { whole = writes_none page room; within = omega arith }
+  slots_begun page room = writes_none page room
 
-  module _ (i : ℕ) {before between after : Page} (p : WritesWithin (5 * i) (spaced (changed_below i map)) before between) where
-    pub slots_on : WritesWithin 5 (slot_text (get_or map i 0) (eqb between.end before.end) i) between after
-        → WritesWithin (5 * (i + 1)) (spaced (changed_below (i + 1) map)) before after
+  pub slots_begun_within : (page : Page) → page.end ≤ length page.text.now → WritesWithin (5 * 0) (spaced (changed_below 0 map)) page page
+  slots_begun_within page room = record { whole = slots_begun page room; within = omega arith }
+
+  module _ (i : ℕ) {before between after : Page} where
+    pub slots_on : Writes (spaced (changed_below i map)) before between → Writes (slot_text (get_or map i 0) (eqb between.end before.end) i) between after
+        → Writes (spaced (changed_below (i + 1) map)) before after
     unfolding changed_below
-    slots_on q = record {
-      whole = rw (joined_more, spaced_more _ before.end, ← writes_end p.whole) (writes_then p.whole q.whole);
-      within = omega (arith, p.within, q.within);
-    }
+    slots_on p q = rw (joined_more, spaced_more _ before.end, ← writes_end p) (writes_then p q)
 
-    pub slots_done : length map ≤ i → i ≤ length map → Writes newline between after → WritesWithin (5 * length map + 1) (slots_line map) before after
+    pub slots_done : Writes (spaced (changed_below i map)) before between → length map ≡ i → Writes newline between after → Writes (slots_line map) before after
     unfolding slots_line
-    slots_done l m q =
-        let e : length map ≡ i = omega arith in
-        record { whole = rw e (writes_then p.whole q); within = omega (arith, p.within, writes_end q) }
+    slots_done p e q = rw e (writes_then p q)
+
+    module _ (p : WritesWithin (5 * i) (spaced (changed_below i map)) before between) where
+      pub slots_on_within : WritesWithin 5 (slot_text (get_or map i 0) (eqb between.end before.end) i) between after
+          → WritesWithin (5 * (i + 1)) (spaced (changed_below (i + 1) map)) before after
+      slots_on_within q = record { whole = slots_on p.whole q.whole; within = omega (arith, p.within, q.within) }
+
+      pub slots_done_within : length map ≤ i → i ≤ length map → Writes newline between after → WritesWithin (5 * length map + 1) (slots_line map) before after
+      slots_done_within l m q = record { whole = slots_done p.whole (omega arith) q; within = omega (arith, p.within, writes_end q) }

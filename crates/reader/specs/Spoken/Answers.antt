@@ -1,10 +1,10 @@
 -- What is said of a frame's answer and of an input, one law for each return of the code.
 -- Assumes nothing.
-use Rattle.std.specs.Prelude.{◌≡◌, Ok, Err, Bool, true, false, List, [], ℕ, ◌+◌, ◌-◌, ◌≤◌, ◌<◌, leb, length, take, drop, replicate, if◌then◌else◌}
-use Rattle.std.proofs.Common.{sym, ap, arith, length-take, length-take-le}
+use Rattle.std.specs.Prelude.{◌≡◌, Result, Ok, Err, Bool, true, false, List, [], ℕ, ◌+◌, ◌-◌, ◌≤◌, ◌<◌, leb, length, take, drop, replicate, if◌then◌else◌}
+use Rattle.std.proofs.Common.{sym, arith, length-take, length-take-le}
 use borrow.Author.Tests.{lt-ltb, le-ltb, ne_eqb}
 use Rattle.std.proofs.Math.ListN.{length-drop}
-use Rattle.std.proofs.lemmas.List.{length-replicate, take-replicate}
+use Rattle.std.proofs.lemmas.List.{take-replicate}
 use Rattle.std.proofs.Math.Seq.{take_all}
 use Rattle.algebra.specs.Tests.{at}
 use Rattle.frame.specs.Frame.{slot_count, area_size, allowed_frame, ReceiveOutcome, receive_outcome, receiving, error_number, payload_in, payload_of}
@@ -34,9 +34,10 @@ module _ (depth : ℕ) (area map : List ℕ) (o : ReceiveOutcome) {before after 
   told_accepted r h payload e p = rw (← h, ← e) p
 
 -- a payload is no longer than its area
-pub payload_fits : (r : Received) (area p : List ℕ) → p ≡ payload_of (Ok r) area → length p ≤ length area
+pub payload_fits : (r : Result Received ReceiveError) (area p : List ℕ) → p ≡ payload_of r area → length p ≤ length area
 unfolding payload_of payload_in
-payload_fits r area p e = rw e (go (leb (r.back + 4) (length area)))
+payload_fits (Err _) area p e = rw e (omega arith)
+payload_fits (Ok r) area p e = rw e (go (leb (r.back + 4) (length area)))
   where
     go : (t : Bool) → length (if t then take r.back (drop (length area - 4 - r.back) area) else []) ≤ length area
     go true = simp (length-take, length-drop) (omega arith)
@@ -65,8 +66,8 @@ module _ (input : List ℕ) where
 -- ---- the work space
 
 -- a part of the work space is as long as asked
-pub part_size : (n : ℕ) (w : List ℕ) → n ≤ 4080 → w ≡ replicate 4080 0 → n ≡ length (take n w)
-part_size n w l e = sym (length-take-le n w (omega (arith, ap length e, length-replicate {A = ℕ} 4080 0)))
+pub part_size : (n : ℕ) (w : List ℕ) → n ≤ 4080 → length w ≡ 4080 → n ≡ length (take n w)
+part_size n w l e = sym (length-take-le n w (omega arith))
 
 -- the work space's parts are the marks, the area and the map that are meant
 pub unmarked : (f : Framing) (slots w₁ w₂ w₃ : List ℕ) → FrameAllowed f → w₁ ≡ replicate 4080 0 → w₂ ≡ replicate 4080 0 → w₃ ≡ replicate 4080 0

@@ -9,21 +9,21 @@ slice_bounds-marks-end c = omega (arith, slots_few _ c.requires.0)
 
 pub slice_bounds-put_answer-end : goal.slice_bounds-put_answer-end
 slice_bounds-put_answer-end c =
-    part_size _ _ (slots_few _ c.requires.0) c.filled-marks.ensures
+    part_size _ _ (slots_few _ c.requires.0) (omega arith)
 
 pub slice_bounds-area-end : goal.slice_bounds-area-end
 slice_bounds-area-end c = omega (arith, area_few _ c.requires.0)
 
 pub slice_bounds-put_answer-end-2 : goal.slice_bounds-put_answer-end-2
 slice_bounds-put_answer-end-2 c =
-    part_size _ _ (area_few _ c.requires.0) c.filled-area.ensures
+    part_size _ _ (area_few _ c.requires.0) (omega arith)
 
 pub slice_bounds-map-end : goal.slice_bounds-map-end
 slice_bounds-map-end c = omega (arith, slots_few _ c.requires.0)
 
 pub slice_bounds-put_answer-end-3 : goal.slice_bounds-put_answer-end-3
 slice_bounds-put_answer-end-3 c =
-    part_size _ _ (slots_few _ c.requires.0) c.filled-map.ensures
+    part_size _ _ (slots_few _ c.requires.0) (omega arith)
 
 pub returns : goal.returns
 returns c =

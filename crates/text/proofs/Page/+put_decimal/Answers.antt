@@ -1,7 +1,6 @@
 -- `put_decimal` meets its contract: the digits before the last are those of the tenth part, which is the measure's fall.
-use mathlib.Core.Path.{ap}
-use native.Mathlib.Omega.{arith}
-use lib.ListN.{length}
+use Rattle.std.proofs.Common.{rules, ap, arith, length, ◌≡◌, ◌%◌}
+use Rattle.text.specs.Text.{digit}
 use Rattle.text.specs.Page.{writes_end, writes_size}
 use Rattle.text.specs.Pieces.{writes_digit, writes_last}
 use Rattle.text.specs.Text.Decimal.{decimal_one, decimal_more_size}
@@ -18,7 +17,9 @@ put_byte-requires t c = elim c.if-n-ge10.branch [
 ]
 
 pub returns : goal.returns
-returns t c = elim c.if-n-ge10.branch [
-  | then-n-ge10 w ↦ writes_last _ _ c.digit.ensures c.put_byte.ensures w.if-n-ge10.true w.put_decimal.ensures w.self-is
-  | else-n-ge10 w ↦ writes_digit _ _ c.digit.ensures c.put_byte.ensures w.if-n-ge10.false w.self-is
-]
+returns t c =
+    let last : c.digit.result ≡ digit (c.args.n % 10) = search rules in
+    elim c.if-n-ge10.branch [
+      | then-n-ge10 w ↦ writes_last _ _ last c.put_byte.ensures w.if-n-ge10.true w.put_decimal.ensures w.self-is
+      | else-n-ge10 w ↦ writes_digit _ _ last c.put_byte.ensures w.if-n-ge10.false w.self-is
+    ]

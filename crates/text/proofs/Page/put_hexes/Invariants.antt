@@ -5,4 +5,4 @@ use Rattle.text.specs.Page.{Writes}
 use Rattle.text.proofs.Page.put_hexes.Given as goal
 
 abbrev pub invariant-loop-byte : goal.invariant-loop-byte
-invariant-loop-byte l = Writes (hexes (take l.byte-index l.bytes)) l.initial.self l.self
+invariant-loop-byte l = Writes (hexes (take l.byte-index l.bytes)) l.initial.page l.page
