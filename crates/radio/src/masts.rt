@@ -41,7 +41,7 @@ fn two_frames() -> FrameAnswer
 
 // The answer as C sees it, with the areas that were left: that of the copy that is used, as a frame's answer. It is a call and no `From`, since
 // it takes both areas too. The payload's length is that of the part which the link hands back, so that its promise holds what C sees.
-#[tactic(auto, unfolding(crate::specs::Frames::start_of, frame::specs::Frame::payload_of))]
+#[tactic(auto, unfolding(crate::specs::Frames::start_of))]
 fn chosen_answer(t: Result<Chosen, MastsError>, first: &[u8], second: &[u8]) -> ChosenAnswer
     ensures { result ≡ chosen_seen first.now second.now t }
 {
