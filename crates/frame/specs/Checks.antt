@@ -4,7 +4,7 @@
 use Rattle.std.specs.Prelude.{◌≡◌, true, false, Result, Ok, Err, List, length, T}
 use Rattle.std.proofs.Math.Path.{refl}
 use Prim.Native.Nat.{ℕ, ◌+◌, ◌-◌, ◌≤◌}
-use Rattle.std.proofs.Math.Decide.{ℕ_discrete}
+use Rattle.std.proofs.Math.Decide.{ℕ_discrete, dec_le}
 use Rattle.std.proofs.Common.{arith}
 use Rattle.algebra.specs.Tests.{below, passed}
 use Rattle.algebra.specs.Refusal.{passes, need_yes, need_no, need_zero, need_either}
@@ -28,6 +28,15 @@ pub record SendChecked (f : Framing) (payload slots : List ℕ) : Type 0 where
   pub fits : length payload + 4 ≤ area_size f
 
 module _ (f : Framing) (payload slots : List ℕ) where
+  pub send_checked : send_refusal f payload slots ≡ 0 → SendChecked f payload slots
+  unfolding send_refusal
+  send_checked e =
+      let (a, e₁) = need_zero (passes (allowed_frame f)) 1 _ (omega arith) e in
+      let (n, e₂) = need_zero (ℕ_discrete (length slots) (slot_count f)) 2 _ (omega arith) e₁ in
+      let (l, _) = need_zero (dec_le (length payload) (area_size f - 4)) 6 _ (omega arith) e₂ in
+      let limits = frame_kept f (passed _ a) in
+      record { limits = limits; slots_size = n; fits = omega (arith, limits.room) }
+
   pub send_setting : allowed_frame f ≡ false → 1 ≡ send_refusal f payload slots
   unfolding send_refusal
   send_setting a = need_no _ _ _ λ t. rw a at t
@@ -135,6 +144,22 @@ pub record CleanChecked (f : Framing) (slots : List ℕ) : Type 0 where
   pub slots_size : length slots ≡ slot_count f
 
 module _ (f : Framing) (slots : List ℕ) where
+  most : clean_refusal f slots ≤ 2
+  unfolding clean_refusal
+  most =
+      let few : ℕ → Type 0 = λ k. k ≤ 2 in
+      need_either _ 1 _ few (omega arith) (need_either _ 2 0 few (omega arith) (omega arith))
+
+  passed_both : clean_refusal f slots ≡ 0 → CleanChecked f slots
+  unfolding clean_refusal
+  passed_both e =
+      let (a, e₁) = need_zero (passes (allowed_frame f)) 1 _ (omega arith) e in
+      let (n, _) = need_zero (ℕ_discrete (length slots) (slot_count f)) 2 _ (omega arith) e₁ in
+      record { limits = frame_kept f (passed _ a); slots_size = n }
+
+  pub clean_checked : (k : ℕ) → k ≡ clean_refusal f slots → (k ≡ 1 → ⊥) → (k ≡ 2 → ⊥) → CleanChecked f slots
+  clean_checked k e a b = passed_both (omega (arith, most))
+
   pub clean_setting : allowed_frame f ≡ false → 1 ≡ clean_refusal f slots
   unfolding clean_refusal
   clean_setting a = need_no _ _ _ λ t. rw a at t

@@ -94,6 +94,10 @@ sent_number (Err S.BadSetting) = 1
 sent_number (Err S.BadLength) = 2
 sent_number (Err S.LongPayload) = 6
 
+-- the answer that has this number
+abbrev pub sent_as : ℕ → Result (Unit {0}) SendError
+sent_as k = if eqb k 0 then Ok tt else if eqb k 1 then Err S.BadSetting else if eqb k 2 then Err S.BadLength else Err S.LongPayload
+
 abbrev pub send_outcome : Result (Unit {0}) SendError → List ℕ → SendOutcome
 send_outcome d slots = record { number = sent_number d; slots = slots }
 
@@ -230,6 +234,16 @@ number_of (Err e) = error_number e
 abbrev pub word_number : Result Received ReceiveError → ℕ
 word_number (Ok r) = 0
 word_number (Err e) = error_word e
+
+-- an answer without its numbers, and the one that has this number and this word
+abbrev pub verdict_of : {A : Type 0} → Result A ReceiveError → Result (Unit {0}) ReceiveError
+verdict_of (Ok r) = Ok tt
+verdict_of (Err e) = Err e
+
+abbrev pub verdict_as : (number word : ℕ) → Result (Unit {0}) ReceiveError
+verdict_as k w =
+    if eqb k 0 then Ok tt else if eqb k 1 then Err BadSetting else if eqb k 2 then Err BadLength else if eqb k 3 then Err BadMark else
+    if eqb k 4 then Err (BeyondReach w) else Err BadTrailer
 
 -- a refused frame has no numbers beside these
 abbrev pub no_numbers : Received

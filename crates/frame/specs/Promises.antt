@@ -4,7 +4,7 @@
 use Rattle.std.specs.Prelude.{◌≡◌, refl, Bool, Result, Ok, Err, Option, Some, None, List, ℕ, eqb, if◌then◌else◌}
 use Rattle.std.proofs.Common.{sym, ap, ◌∙◌}
 use Rattle.word.specs.declared.Figures.{Figures}
-use Rattle.frame.specs.Frame.{allowed_frame, SendOutcome, sent_number, send_outcome, sending, ReceiveOutcome, payload_of, receive_outcome, receiving}
+use Rattle.frame.specs.Frame.{allowed_frame, SendOutcome, sent_number, sent_as, send_outcome, sending, ReceiveOutcome, number_of, word_number, verdict_of, verdict_as, payload_of, receive_outcome, receiving}
 use Rattle.frame.specs.Clean.{clean_number, is_yes, unclean_word, CleanOutcome, clean_outcome, cleanness}
 use Rattle.frame.specs.declared.setting.Framing.{Framing}
 use Rattle.frame.specs.declared.setting.SendError.{SendError}
@@ -37,11 +37,7 @@ pub record IsClean (f : Framing) (slots : List ℕ) (d : Result (Option ℕ) Cle
 pub frame_allowed_once : (f : Framing) (r s : Bool) → r ≡ allowed_frame f → s ≡ allowed_frame f → r ≡ s
 frame_allowed_once f r s p q = cc
 
-pub sent_as : ℕ → Result (Unit {0}) SendError
-sent_as k = if eqb k 0 then Ok tt else if eqb k 1 then Err S.BadSetting else if eqb k 2 then Err S.BadLength else Err S.LongPayload
-
 sent_as_lem : (d : Result (Unit {0}) SendError) → sent_as (sent_number d) ≡ d
-unfolding sent_as
 sent_as_lem (Ok u) = refl
 sent_as_lem (Err S.BadSetting) = refl
 sent_as_lem (Err S.BadLength) = refl
@@ -52,6 +48,15 @@ pub sends_once : {f : Framing} {payload : List ℕ} {sequence : ℕ} {slots : Li
 sends_once {d = d} {e = e} p q =
     let same = p.outcome ∙ sym q.outcome in
     (sym (sent_as_lem d) ∙ ap (λ (o : SendOutcome). sent_as o.number) same ∙ sent_as_lem e, ap (λ (o : SendOutcome). o.slots) same)
+
+-- an answer's number and word give it back, without its numbers
+pub verdict_as_lem : (r : Result Received ReceiveError) → verdict_as (number_of r) (word_number r) ≡ verdict_of r
+verdict_as_lem (Ok r) = refl
+verdict_as_lem (Err BadSetting) = refl
+verdict_as_lem (Err BadLength) = refl
+verdict_as_lem (Err BadMark) = refl
+verdict_as_lem (Err (BeyondReach w)) = refl
+verdict_as_lem (Err BadTrailer) = refl
 
 -- the answer that has these numbers
 pub received_as : (number word sequence back : ℕ) → List Figures → Result Received ReceiveError

@@ -1,7 +1,7 @@
-// Document 01, section Numbers a call can answer: the paper's numbers of what sending and receiving answer. They stay calls, since the promises
-// speak of an answer's number by definitions of these names.
+// Document 01, section Numbers a call can answer: the paper's numbers of what sending and receiving answer, and the answers of its numbers. They
+// stay calls, since the promises speak of an answer's number by definitions of these names.
 ghost use Rattle.std.specs.Prelude.{◌≡◌};
-ghost use Rattle.frame.specs.Frame.{sent_number, number_of, word_number, no_numbers, received_of};
+ghost use Rattle.frame.specs.Frame.{sent_number, sent_as, number_of, word_number, verdict_as, no_numbers, received_of};
 
 use crate::setting::{ReceiveError, Received, SendError};
 use word::numbers::no_figures;
@@ -39,6 +39,33 @@ pub fn word_number(answer: Result<Received, ReceiveError>) -> u8
     match answer {
         Err(ReceiveError::BeyondReach(w)) => w,
         _ => 0,
+    }
+}
+
+// The answer of sending that has this number. Who has the number alone, as from a call for C, gets the answer back.
+pub fn sent_as(number: u8) -> Result<(), SendError>
+    ensures { result ≡ sent_as number }
+{
+    match number {
+        0 => Ok(()),
+        1 => Err(SendError::BadSetting),
+        2 => Err(SendError::BadLength),
+        _ => Err(SendError::LongPayload),
+    }
+}
+
+// The answer of receiving that has this number, without the frame's own numbers, and names this word where it is 4. Who has both alone, as
+// from a call for C or a replay's result, gets the answer back.
+pub fn verdict_as(number: u8, word: u8) -> Result<(), ReceiveError>
+    ensures { result ≡ verdict_as number word }
+{
+    match number {
+        0 => Ok(()),
+        1 => Err(ReceiveError::BadSetting),
+        2 => Err(ReceiveError::BadLength),
+        3 => Err(ReceiveError::BadMark),
+        4 => Err(ReceiveError::BeyondReach(word)),
+        _ => Err(ReceiveError::BadTrailer),
     }
 }
 

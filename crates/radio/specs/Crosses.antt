@@ -1,6 +1,6 @@
 -- The cross line's calls for C (document 01, Cross line): what is seen of an answer, what each call promises, and that no call has a second answer.
 -- Assumes nothing.
-use Rattle.std.specs.Prelude.{◌≡◌, refl, true, Ok, Err, List, ℕ, length}
+use Rattle.std.specs.Prelude.{◌≡◌, refl, ◌≢◌, true, Ok, Err, List, ℕ, length}
 use Rattle.std.proofs.Common.{ap, ◌∙◌}
 use Rattle.algebra.specs.Refusal.{if_zero}
 use Rattle.interleave.specs.Numbers.{number_of}
@@ -8,7 +8,7 @@ use Rattle.word.specs.Answers.{no_figures}
 use Rattle.cross.specs.Numbers.{cross_number, taken_number, taken_figures}
 use Rattle.cross.specs.Promises.{Ready, FrameAnswer, FreshSender, FreshReceiver, Send, Receive, fresh_sender_once, fresh_receiver_once, send_once, receive_once}
 use Rattle.cross.specs.Cross.{due, passed_on, marks_of, FrameOutcome, without_figures, settled, received, size_refusal, send_refusal, fresh_refusal, receive_refusal}
-use Rattle.cross.specs.Checks.{fresh_sender_number, fresh_receiver_number, send_number, receive_number}
+use Rattle.cross.specs.Checks.{fresh_sender_number, fresh_receiver_number, send_number, receive_number, receive_figures}
 use Rattle.radio.specs.Shown.{Shows, shown_once}
 use Rattle.radio.specs.declared.lines.Ready.{Ready as Seen}
 use Rattle.radio.specs.declared.crosses.CrossReceived.{CrossReceived}
@@ -66,6 +66,13 @@ pub cross_receive_number : {at : ℕ} {m ms word message map : List ℕ} {r : Cr
     told_by r out ≡ if_zero k (settled at (due true at m (passed_on word)) (due true at ms (marks_of word)) message) (without_figures k message)
 cross_receive_number {at = at} {out = out} p =
     ap (λ (s : CrossReceived). told_by s out) p.same ∙ received_told at p.inner out ∙ receive_number at _ _ _ _ _ p.inner _ _ _ _ p.promised
+
+-- the figures that are seen are 0 under any answer but 0
+pub cross_receive_figures : {at : ℕ} {m ms word message map : List ℕ} {r : CrossReceived} {left held out left_map : List ℕ} → CrossReceive at m ms word message map r left held out left_map
+    → r.answer ≢ 0 → r.figures ≡ no_figures
+cross_receive_figures {at = at} {r = r} {out = out} p h =
+    let told : told_by r out ≡ received p.inner out = ap (λ (s : CrossReceived). told_by s out) p.same ∙ received_told at p.inner out in
+    ap (λ (o : FrameOutcome). o.figures) told ∙ receive_figures p.inner out (λ z. h (ap (λ (o : FrameOutcome). o.number) told ∙ z))
 
 -- ---- no second answer: of each call's answer, and of what it leaves in all that was lent
 

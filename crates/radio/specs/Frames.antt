@@ -26,17 +26,21 @@ framing_of s = record { depth = s.depth; n = s.n; r = s.r; b = s.b }
 unfoldable pub start_of : ℕ → ℕ → ℕ → ℕ
 start_of number size many = if eqb number 0 then size - 4 - many else 0
 
--- an answer with the area that it left
-abbrev pub frame_seen : List ℕ → Result Received ReceiveError → FrameAnswer
-frame_seen area t =
+-- an answer with the bytes of the area that it left, and of the payload in it
+abbrev pub frame_sized : (size many : ℕ) → Result Received ReceiveError → FrameAnswer
+frame_sized size many t =
     record {
       answer = number_of t;
       word = word_number t;
       sequence = (received_of t).sequence;
-      start = start_of (number_of t) (length area) (length (payload_of t area));
-      length = length (payload_of t area);
+      start = start_of (number_of t) size many;
+      length = many;
       figures = (received_of t).figures;
     }
+
+-- an answer with the area that it left
+abbrev pub frame_seen : List ℕ → Result Received ReceiveError → FrameAnswer
+frame_seen area t = frame_sized (length area) (length (payload_of t area)) t
 
 abbrev pub clean_seen : Result (Option ℕ) CleanError → FrameClean
 clean_seen d = record { answer = clean_number d; clean = one_if (is_yes d); word = unclean_word d }

@@ -1,7 +1,7 @@
 // Frames for C: the setting, what receiving answers, and the calls. The payload goes back as its place in the lent area.
 ghost use Rattle.std.specs.Prelude.{◌≡◌};
 ghost use Rattle.frame.specs.Frame.{allowed_frame};
-ghost use Rattle.radio.specs.Frames.{framing_of, start_of, frame_seen, clean_seen, FrameSend, FrameReceive, FrameIsClean};
+ghost use Rattle.radio.specs.Frames.{framing_of, start_of, frame_sized, frame_seen, clean_seen, FrameSend, FrameReceive, FrameIsClean};
 
 use frame::numbers::{number_of, received_of, sent_number, word_number};
 use frame::{
@@ -66,22 +66,29 @@ pub fn start_of(number: u8, size: usize, length: usize) -> usize
     size.saturating_sub(4).saturating_sub(length)
 }
 
-// A frame's answer as C sees it, with the area that it left. It is a call and no `From`, since it takes the area too.
-pub fn frame_answer(t: Result<Received, ReceiveError>, area: &[u8]) -> FrameAnswer
-    ensures { result ≡ frame_seen area.now t }
+// A frame's answer as C sees it, with how many bytes the area has that it left, and how many its payload. It is a call and no `From`, since it
+// takes both lengths too: of one frame the payload is found in one way, and of two copies in another.
+pub fn sized_answer(t: Result<Received, ReceiveError>, size: usize, length: usize) -> FrameAnswer
+    ensures { result ≡ frame_sized size length t }
 {
     let answer = number_of(t);
-    let length = payload(area, t).len();
     let numbers = received_of(t);
     let figures = numbers.figures;
     FrameAnswer {
         answer,
         word: word_number(t),
         sequence: numbers.sequence,
-        start: start_of(answer, area.len(), length),
+        start: start_of(answer, size, length),
         length,
         figures,
     }
+}
+
+// The same with the area itself, in which the payload is found.
+pub fn frame_answer(t: Result<Received, ReceiveError>, area: &[u8]) -> FrameAnswer
+    ensures { result ≡ frame_seen area.now t }
+{
+    sized_answer(t, area.len(), payload(area, t).len())
 }
 
 // The answer of a frame that is only asked about, as C sees it.

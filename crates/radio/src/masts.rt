@@ -4,9 +4,9 @@ ghost use Rattle.std.specs.Prelude.{◌≡◌};
 ghost use Rattle.link.specs.Masts.{copy_of, left_of};
 ghost use Rattle.radio.specs.Masts.{two_frames, chosen_seen, both_masts_seen, MastsReceive, MastsHear};
 
-use crate::frames::{FrameAnswer, FrameSetting, frame_answer};
+use crate::frames::{FrameAnswer, FrameSetting, sized_answer};
 use crate::records::{LentRecord, record_seen};
-use link::{Chosen, Mast, MastCopy, MastsError, hear_masts, receive_masts};
+use link::{Chosen, Mast, MastCopy, MastsError, hear_masts, masts_payload, receive_masts};
 use word::numbers::no_figures;
 
 // The mast that is used, and what both copies are answered, as a frame's answer.
@@ -40,25 +40,26 @@ fn two_frames() -> FrameAnswer
 }
 
 // The answer as C sees it, with the areas that were left: that of the copy that is used, as a frame's answer. It is a call and no `From`, since
-// it takes both areas too.
-#[tactic(auto, unfolding(crate::specs::Frames::start_of, frame::specs::Frame::payload_of))]
+// it takes both areas too. The payload's length is that of the part which the link hands back, so that its promise holds what C sees.
+#[tactic(auto, unfolding(crate::specs::Frames::start_of))]
 fn chosen_answer(t: Result<Chosen, MastsError>, first: &[u8], second: &[u8]) -> ChosenAnswer
     ensures { result ≡ chosen_seen first.now second.now t }
 {
+    let length = masts_payload(first, second, t).len();
     match t {
         Ok(chosen) => match chosen.mast {
             Mast::First => ChosenAnswer {
                 mast: 1,
-                frame: frame_answer(Ok(chosen.copy), first),
+                frame: sized_answer(Ok(chosen.copy), first.len(), length),
             },
             Mast::Second => ChosenAnswer {
                 mast: 2,
-                frame: frame_answer(Ok(chosen.copy), second),
+                frame: sized_answer(Ok(chosen.copy), second.len(), length),
             },
         },
         Err(MastsError::Refused(reason)) => ChosenAnswer {
             mast: 0,
-            frame: frame_answer(Err(reason), &[]),
+            frame: sized_answer(Err(reason), 0, length),
         },
         Err(MastsError::Differ) => ChosenAnswer {
             mast: 0,

@@ -1,12 +1,13 @@
 -- The limits of a frame, read from the test.
 -- Assumes nothing.
-use Rattle.std.specs.Prelude.{◌≡◌, true, ◌&&◌, ◌-◌, ◌*◌, ◌≤◌}
+use Rattle.std.specs.Prelude.{◌≡◌, true, false, ◌&&◌, ◌-◌, ◌*◌, ◌≤◌}
 use Rattle.std.proofs.Math.Bool.{Bool}
 use Rattle.std.proofs.Common.{mul-le-mul_right, arith}
 use Rattle.std.proofs.Math.Dec.{T, leb, leb→le}
 use borrow.Author.Tests.{le-leb}
 use Rattle.algebra.specs.Tests.{and_left, and_right}
 use Rattle.word.specs.Setting.{allowed, Allowed, limits, allowed_yes}
+use Rattle.word.specs.declared.Setting.{Setting}
 use Rattle.frame.specs.Frame.{word_setting, slot_count, area_size, allowed_frame}
 use Rattle.frame.specs.declared.setting.Framing.{Framing}
 
@@ -47,6 +48,13 @@ module _ (f : Framing) where
       rw (← allowed_yes (word_setting f) a.words, le-leb 1 f.depth a.some, le-leb f.depth 16 a.few, le-leb 4 (area_size f) a.room)
 
   -- what the word code's own test says of the frame's words
+  pub words_no : allowed (word_setting f) ≡ false → false ≡ allowed_frame f
+  unfolding allowed_frame
+  words_no e = rw e
+
+  pub words_yes : (s : Setting) (a : Bool) → s ≡ word_setting f → a ≡ allowed s → a ≡ true → Allowed (word_setting f)
+  words_yes s a e g h = let t : allowed (word_setting f) ≡ true = cc in limits (word_setting f) (rw t tt)
+
   pub small_yes : allowed (word_setting f) ≡ true → f.depth ≤ 16 → Small f
   small_yes e h = record { words = limits (word_setting f) (rw e tt); few = h }
 

@@ -8,7 +8,7 @@ use borrow.Author.Tests.{le-leb, lt-leb, eq-eqb}
 use Rattle.std.proofs.Math.ListN.{length, length-append, get_or-append}
 use Rattle.std.proofs.lemmas.List.{length-replicate, get_or-replicate}
 use Rattle.std.proofs.Math.Seq.{get_or-append-add}
-use Rattle.algebra.specs.Tests.{at, each_at, each_all, below, below_at, below_all, passed}
+use Rattle.algebra.specs.Tests.{at, each, each_at, each_all, below, below_at, below_all, passed}
 use Rattle.frame.specs.Frame.{trailer, two_at, area_sent, zeros_before, trailer_good, payload_in, payload_of}
 use Rattle.frame.specs.declared.setting.Received.{Received}
 use Rattle.frame.specs.declared.setting.ReceiveError.{ReceiveError}
@@ -52,6 +52,14 @@ module _ (A : ℕ) (payload : List ℕ) (sequence : ℕ) (fits : length payload 
       sym (ap (at (area_sent A payload sequence)) (sym e) ∙ get_or-append-add (zeros ++ payload) (trailer (length payload) sequence) (i - (A - 4)) 0)
 
 -- ---- zeros before the payload
+
+pub zeros_stop : (end : ℕ) (area : List ℕ) (i : ℕ) → i < end → (at area i ≡ 0 → ⊥) → false ≡ zeros_before end area
+unfolding zeros_before
+zeros_stop end area i l h = go (each end λ k. eqb (at area k) 0) refl
+  where
+    go : (b : Bool) → (each end λ k. eqb (at area k) 0) ≡ b → false ≡ b
+    go true e = absurd (h (eqb→eq (at area i) 0 (each_at end (λ k. eqb (at area k) 0) (rw e tt) i l)))
+    go false e = refl
 
 pub zeros_all : (end : ℕ) (area : List ℕ) → ((i : ℕ) → i < end → at area i ≡ 0) → true ≡ zeros_before end area
 unfolding zeros_before
