@@ -25,7 +25,7 @@ pub enum Look {
 // Both looks below. `checks_of` makes the check symbols of the message: by tables that are lent, or by the look's own. That it does is asked
 // here, and shown by the two looks: they ask what a caller knows of its word and its tables.
 #[tactic(auto, using(crate::specs::Setting::in_limits))]
-fn look_with<F: FnOnce(&[u8]) -> [u8; 16]>(
+pub fn look_with<F: FnOnce(&[u8]) -> [u8; 16]>(
     s: Setting,
     received: &[u8],
     marks: &[u8],
