@@ -13,13 +13,14 @@ use frame::numbers::number_of;
 use link::{Framing, is_allowed};
 use text::Page;
 
-// Receives a frame and writes what it was answered.
+// Receives a frame and writes what it was answered. The map stands before the slots: the last arguments lie on the stack, and the loop over
+// the map's marks would fetch its address from there for each of them.
 fn put_answer(
     f: Framing,
-    slots: &[u8],
     marks: &[u8],
     area: &mut [u8],
     map: &mut [u8],
+    slots: &[u8],
     page: &mut Page,
 )
     requires { (f.depth ≤ 16) × (length area.old ≤ 4080) × (length map.old ≤ 4080) × (page.old.end + 30000 ≤ length page.old.text.now) }
@@ -46,10 +47,10 @@ fn put_unmarked(f: Framing, slots: &[u8], page: &mut Page)
     let size = f.depth * (f.n - f.r);
     put_answer(
         f,
-        slots,
         &marks[..count],
         &mut area[..size],
         &mut map[..count],
+        slots,
         page,
     );
 }

@@ -77,10 +77,15 @@ module _ (map : List ℕ) where
     unfolding slots_line
     slots_done p e q = rw e (writes_then p q)
 
+    -- `slots_on_within` doesn't rest on `slots_on`: an edit of what a slot adds would leave it unread, and not refused
     module _ (p : WritesWithin (5 * i) (spaced (changed_below i map)) before between) where
       pub slots_on_within : WritesWithin 5 (slot_text (get_or map i 0) (eqb between.end before.end) i) between after
           → WritesWithin (5 * (i + 1)) (spaced (changed_below (i + 1) map)) before after
-      slots_on_within q = record { whole = slots_on p.whole q.whole; within = omega (arith, p.within, q.within) }
+      unfolding changed_below
+      slots_on_within q = record {
+        whole = rw (joined_more, spaced_more _ before.end, ← writes_end p.whole) (writes_then p.whole q.whole);
+        within = omega (arith, p.within, q.within);
+      }
 
       pub slots_done_within : length map ≤ i → i ≤ length map → Writes newline between after → WritesWithin (5 * length map + 1) (slots_line map) before after
       slots_done_within l m q = record { whole = slots_done p.whole (omega arith) q; within = omega (arith, p.within, writes_end q) }
