@@ -58,10 +58,29 @@ pub fn receive_run(
 ) -> Result<Line, LineError>
     ensures { ReceiveRun line memory.old held.old bytes.old marks.old result memory.new held.new bytes.new marks.new }
 {
-    check_run(&line, memory.len(), held, bytes.len(), marks)?;
-    let position = line.run(true, memory, bytes);
-    line.run(true, held, marks);
-    Ok(Line { position, ..line })
+    // Its numbers are taken one by one: a line that is handed over and then lent is copied in halves, which wait for numbers just stored, and a
+    // step would take 10 ns more.
+    let Line {
+        branches,
+        unit,
+        n,
+        position,
+    } = line;
+    let own = Line {
+        branches,
+        unit,
+        n,
+        position,
+    };
+    check_run(&own, memory.len(), held, bytes.len(), marks)?;
+    let position = own.run(true, memory, bytes);
+    own.run(true, held, marks);
+    Ok(Line {
+        branches,
+        unit,
+        n,
+        position,
+    })
 }
 
 // Whether a run of `many` bytes with these marks is refused.
